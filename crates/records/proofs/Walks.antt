@@ -1,0 +1,48 @@
+-- The fields of a record one by one, by their numbers.
+use mathlib.Core.Path.{_≡_, refl, sym, ap, _∙_}
+use mathlib.Core.Bool.{Bool, true, false, cond, _||_}
+use mathlib.Core.List.{List}
+use Prim.Native.Nat.{ℕ, suc, _+_, _-_, _≤_, _<_}
+use native.Mathlib.Omega.{arith}
+use lib.Dec.{eqb, ltb}
+use lib.ListN.{length, getD, drop}
+use Rattle.std.proofs.shelf.Lists.{at-drop-more, at-drop-all}
+use Rattle.std.proofs.shelf.Tests.{cond-false, ne-eqb, le-ltb}
+use Rattle.std.specs.declared.option.Option.{Option}
+use Rattle.std.specs.declared.option.Option.the-variants.{Some, None}
+use Rattle.std.specs.declared.result.Result.{Result}
+use Rattle.std.specs.declared.result.Result.the-variants.{Ok, Err}
+use Rattle.denials.specs.declared.Fault.{Fault}
+use Rattle.records.specs.declared.layouts.Class.the-variants.{Number}
+use Rattle.records.specs.declared.layouts.Rule.the-variants.{Any}
+use Rattle.records.specs.declared.layouts.Field.{Field}
+use Rattle.records.specs.declared.layouts.Sort.{Sort}
+use Rattle.records.specs.Layouts.{field, fieldsOf, numbered, sortOf}
+use Rattle.records.specs.Fields.{Bytes, byteIn, readField, readIfAny, unlessFault, testFields, testedAs, testRecord}
+
+-- a field that the sort has
+module _ (x : Bytes) (k : Sort) (n : ℕ) (from : 1 ≤ n) (to : n ≤ length (fieldsOf k)) where
+  row : numbered k n ≡ Some (getD (fieldsOf k) (n - 1) (field 0 0 Number Any))
+  row =
+      ap (λ (t : Bool). cond (t || ltb (length (fieldsOf k)) n) None (Some (getD (fieldsOf k) (n - 1) (field 0 0 Number Any)))) (ne-eqb n 0 (λ z. omega arith))
+      ∙ ap (λ (t : Bool). cond t None (Some (getD (fieldsOf k) (n - 1) (field 0 0 Number Any)))) (le-ltb (length (fieldsOf k)) n to)
+
+  next : {r : Result ℕ Fault} → r ≡ readIfAny x (numbered k n) → testFields x (drop (n - 1) (fieldsOf k)) ≡ unlessFault r (testFields x (drop (n - 1 + 1) (fieldsOf k)))
+  next e =
+      at-drop-more (testFields x) (fieldsOf k) (n - 1) (field 0 0 Number Any) (omega arith)
+      ∙ ap (λ r. unlessFault r (testFields x (drop (n - 1 + 1) (fieldsOf k)))) (sym (e ∙ ap (readIfAny x) row))
+
+  pub field-right : {v : ℕ} → Ok v ≡ readIfAny x (numbered k n) → testFields x (drop (n + 1 - 1) (fieldsOf k)) ≡ testFields x (drop (n - 1) (fieldsOf k))
+  field-right e =
+      let s : n + 1 - 1 ≡ n - 1 + 1 = omega arith in
+      ap (λ i. testFields x (drop i (fieldsOf k))) s ∙ sym (next e)
+
+  pub field-wrong : {f : Fault} → Err f ≡ readIfAny x (numbered k n) → testFields x (drop (n - 1) (fieldsOf k)) ≡ Err f
+  field-wrong e = next e
+
+pub fields-end : (x : Bytes) (k : Sort) (n : ℕ) → length (fieldsOf k) < n → testFields x (drop (n - 1) (fieldsOf k)) ≡ Ok tt
+fields-end x k n h = at-drop-all (testFields x) (fieldsOf k) (n - 1) (omega arith)
+
+-- a record of a known sort is judged by its fields
+pub record-is : (x : Bytes) (k : Sort) (r : Result (Unit {0}) Fault) → sortOf (byteIn x 1) ≡ Some k → testFields x (fieldsOf k) ≡ r → testRecord x ≡ unlessFault r (Ok k)
+record-is x k r is e = ap (testedAs x) is ∙ ap (λ t. unlessFault t (Ok k)) e

@@ -1,0 +1,21 @@
+// One record by itself: its sort, if it breaks no field's rule.
+ghost use mathlib.Core.Path.{_≡_};
+ghost use Rattle.records.specs.Fields.{testRecord};
+use crate::fields::read_field;
+use crate::layouts::Sort;
+use crate::layouts::layout;
+use crate::layouts::sort_of;
+use denials::Fault;
+
+/// The sort of a record that keeps the rules of its own layout, or its first fault.
+pub fn test_record(record: &[u8; 120]) -> Result<Sort, Fault>
+    ensures { λ r. ⌜ r ≡ testRecord (now («record» .entry)) ⌝ }
+{
+    let Some(sort) = sort_of(record[0]) else {
+        return Err(Fault::OutOfOrder);
+    };
+    for number in 1..layout(sort).len() + 1 {
+        read_field(record, sort, number)?;
+    }
+    Ok(sort)
+}

@@ -1,0 +1,100 @@
+// Ways to spoil a file: records put out of order one by one, and random damage of many kinds.
+
+use crate::cases::Judge;
+use crate::format::RECORD_LENGTH;
+use crate::random::Random;
+use crate::records::{self, Record};
+
+/// Values just outside a class, and those that the carrier treats specially.
+const OUTSIDE: [u8; 18] = [
+    0x00, 0x0A, 0x0D, 0x1A, 0x1F, 0x21, 0x27, 0x2A, 0x2C, 0x2F, 0x3A, 0x40, 0x5B, 0x61, 0xA6, 0xB0, 0xE0, 0xFF,
+];
+
+/// Each record dropped and doubled, each pair swapped, each record moved to each other place.
+pub fn each_disorder(file: &[Record], judge: &mut Judge) {
+    for place in 0..file.len() {
+        let mut shorter = file.to_vec();
+        shorter.remove(place);
+        judge(&shorter.concat());
+        let mut longer = file.to_vec();
+        longer.insert(place, file[place].clone());
+        judge(&longer.concat());
+        for other in 0..file.len() {
+            let mut swapped = file.to_vec();
+            swapped.swap(place, other);
+            judge(&swapped.concat());
+            let mut moved = file.to_vec();
+            let record = moved.remove(place);
+            moved.insert(other, record);
+            judge(&moved.concat());
+        }
+    }
+}
+
+/// One random change. Some of them leave the file lawful, which is wanted.
+pub fn damage(random: &mut Random, file: &mut Vec<Record>) {
+    if file.is_empty() {
+        return;
+    }
+    match random.below(4) {
+        0 => damage_order(random, file),
+        1 => damage_run(random, file),
+        2 => damage_figures(random, file),
+        _ => damage_byte(random, file),
+    }
+}
+
+fn damage_order(random: &mut Random, file: &mut Vec<Record>) {
+    let place = random.place(file.len());
+    let other = random.place(file.len());
+    match random.below(5) {
+        0 => drop(file.remove(place)),
+        1 => file.insert(other, file[place].clone()),
+        2 => file.swap(place, other),
+        3 => file[place] = file[other].clone(),
+        _ => file[place][0] = random.pick(b"12890 "),
+    }
+}
+
+fn damage_byte(random: &mut Random, file: &mut [Record]) {
+    let record = random.place(file.len());
+    let byte = &mut file[record][random.place(RECORD_LENGTH)];
+    *byte = match random.below(4) {
+        0 => random.byte(),
+        1 => random.pick(&OUTSIDE),
+        2 => random.pick(&records::EDGE_CHARACTERS),
+        // A digit for a digit often leaves the file lawful or breaks a rule instead of a class.
+        _ if byte.is_ascii_digit() => random.pick(b"0123456789"),
+        _ => *byte,
+    };
+}
+
+/// Several columns at once: from another record, or all the same byte.
+fn damage_run(random: &mut Random, file: &mut [Record]) {
+    let record = random.place(file.len());
+    let first = random.place(RECORD_LENGTH);
+    let last = (first + 1 + random.place(20)).min(RECORD_LENGTH);
+    let bytes = match random.below(3) {
+        0 => file[random.place(file.len())][first..last].to_vec(),
+        1 => vec![random.pick(&OUTSIDE); last - first],
+        _ => vec![random.pick(b"01239 "); last - first],
+    };
+    file[record][first..last].copy_from_slice(&bytes);
+}
+
+/// A trailer's figures or a data record's amount, so that the totals no longer agree.
+fn damage_figures(random: &mut Random, file: &mut [Record]) {
+    let record = random.place(file.len());
+    match file[record][0] {
+        b'2' => {
+            // Columns 81 to 90.
+            let amount = records::some_amount(random);
+            file[record][80..90].copy_from_slice(&records::zero_filled(amount, 10));
+        }
+        b'8' => {
+            // One digit of the figures in columns 2 to 19.
+            file[record][1 + random.place(18)] = random.pick(b"0123456789");
+        }
+        _ => {}
+    }
+}
