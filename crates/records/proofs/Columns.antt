@@ -44,11 +44,11 @@ pub number-none : (x : Bytes) (first : ℕ) → number x first (first - first) �
 unfolding number
 number-none x first = let z : first - first ≡ 0 = omega arith in rw z
 
--- a number of at most eleven digits so far leaves room for one more
-pub below-power : (n k : ℕ) → n < 10 ^ k → k ≤ 11 → n < 10 ^ 11
-below-power n k h l =
+-- a number of at most m digits
+pub below-power : (m n k : ℕ) → n < 10 ^ k → k ≤ m → n < 10 ^ m
+below-power m n k h l =
     let some : 0 < 10 = omega arith in
-    let high : 10 ^ k ≤ 10 ^ 11 = pow-le-pow-right some l in
+    let high : 10 ^ k ≤ 10 ^ m = pow-le-pow-right some l in
     omega arith
 
 pub next-power : (n k d : ℕ) → n < 10 ^ k → d ≤ 9 → n * 10 + d < 10 ^ (k + 1)

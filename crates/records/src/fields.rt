@@ -1,9 +1,10 @@
 // One field of one record: the class of its bytes, then the rule on its number.
 ghost use mathlib.Core.Path.{_≡_};
 ghost use mathlib.Core.Bool.{true};
-ghost use Prim.Native.Nat.{_+_, _-_, _≤_, _<_};
+ghost use Prim.Native.Nat.{_+_, _-_, _^_, _≤_, _<_};
 ghost use Rattle.records.specs.Layouts.{holds as holdsOf, isDate, keeps as keepsOf, numbered};
 ghost use Rattle.records.specs.Fields.{wrongByte, number as numberOf, judgedBytes, isSound, readField, readIfAny};
+ghost use Rattle.std.specs.Results.{Cases};
 use crate::layouts::Class;
 use crate::layouts::Field;
 use crate::layouts::Rule;
@@ -71,7 +72,8 @@ fn test_bytes(record: &[u8; 120], class: Class, first: usize, last: usize) -> Re
 // Tests the bytes of some columns for digits, and reads their number on the way.
 fn read_digits(record: &[u8; 120], first: usize, last: usize) -> Result<u64, Fault>
     requires { ⌜ 1 ≤ first ⌝ ∗ ⌜ first ≤ last ⌝ ∗ ⌜ last ≤ 120 ⌝ ∗ ⌜ last < first + 12 ⌝ }
-    ensures { λ r. ⌜ r ≡ judgedBytes (wrongByte Class.Number (now («record» .entry)) first (last + 1 - first)) (numberOf (now («record» .entry)) first (last + 1 - first)) ⌝ }
+    ensures value { λ r. ⌜ r ≡ judgedBytes (wrongByte Class.Number (now («record» .entry)) first (last + 1 - first)) (numberOf (now («record» .entry)) first (last + 1 - first)) ⌝ }
+    ensures below { λ r. ⌜ Cases r (λ v. v < 10 ^ 12) (λ _. Unit {0}) ⌝ }
 {
     let mut value: u64 = 0;
     for column in first..last + 1 {
@@ -87,7 +89,8 @@ fn read_digits(record: &[u8; 120], first: usize, last: usize) -> Result<u64, Fau
 // The number in a field that is read as one, else 0; a wrong byte comes before a wrong value.
 fn read(record: &[u8; 120], field: Field) -> Result<u64, Fault>
     requires { ⌜ isSound field ≡ true ⌝ }
-    ensures { λ r. ⌜ r ≡ readField (now («record» .entry)) field ⌝ }
+    ensures value { λ r. ⌜ r ≡ readField (now («record» .entry)) field ⌝ }
+    ensures below { λ r. ⌜ Cases r (λ v. v < 10 ^ 12) (λ _. Unit {0}) ⌝ }
 {
     let Field(first, last, class, rule) = field;
     match class {
@@ -108,7 +111,8 @@ fn read(record: &[u8; 120], field: Field) -> Result<u64, Fault>
 
 /// Tests the field of that number, and tells its number if it is read as one. A field that the sort has not is not at fault.
 pub fn read_field(record: &[u8; 120], sort: Sort, number: usize) -> Result<u64, Fault>
-    ensures { λ r. ⌜ r ≡ readIfAny (now («record» .entry)) (numbered sort number) ⌝ }
+    ensures value { λ r. ⌜ r ≡ readIfAny (now («record» .entry)) (numbered sort number) ⌝ }
+    ensures below { λ r. ⌜ Cases r (λ v. v < 10 ^ 12) (λ _. Unit {0}) ⌝ }
 {
     match numbered_field(sort, number) {
         Some(field) => read(record, field),

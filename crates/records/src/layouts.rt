@@ -1,11 +1,19 @@
 // The layouts of the four records: one table for each, columns counted from 1.
 ghost use mathlib.Core.Path.{_≡_};
-ghost use lib.ListN.{length};
 ghost use Rattle.std.specs.Options.{Cases as BySome};
-ghost use Rattle.records.specs.Layouts.{sortOf, fieldsOf, numbered, Inside, coveredBy};
+ghost use Rattle.records.specs.Layouts.{sortOf, fieldsOf, numbered, Inside};
 
 /// The length of a record.
 pub const RECORD_BYTES: usize = 120;
+
+/// The number of a data record's amount among its fields.
+pub const DATA_AMOUNT: usize = 10;
+
+/// The number of a trailer's count among its fields.
+pub const TRAILER_COUNT: usize = 2;
+
+/// The number of a trailer's amount among its fields.
+pub const TRAILER_AMOUNT: usize = 3;
 
 /// The four sorts of records.
 #[derive(Clone, Copy, Debug, PartialEq, Eq)]

@@ -16,14 +16,14 @@ loop-column-holds c =
 pub returns-then-not-holds : need.returns-then-not-holds
 returns-then-not-holds c =
     let here = wrong-here Number (c .args .record .now) (c .loop-column .column) (c .args .last + 1) (c .loop-column-test .taken) (sym (c .if-not-holds .ensures tt)) in
-    ap (λ o. judgedBytes o (number (c .args .record .now) (c .args .first) (c .args .last + 1 - c .args .first))) (sym here ∙ c .loop-column .inv .0)
+    record { value = ap (λ o. judgedBytes o (number (c .args .record .now) (c .args .first) (c .args .last + 1 - c .args .first))) (sym here ∙ c .loop-column .inv .0); below = tt }
 
 pub mul-value : need.mul-value
-mul-value c = let room = below-power (c .loop-column .value) (c .loop-column .column - c .args .first) (c .loop-column .inv .2) (omega arith) in search needs
+mul-value c = let room = below-power 11 (c .loop-column .value) (c .loop-column .column - c .args .first) (c .loop-column .inv .2) (omega arith) in search needs
 
 pub add-value : need.add-value
 add-value c =
-    let room = below-power (c .loop-column .value) (c .loop-column .column - c .args .first) (c .loop-column .inv .2) (omega arith) in
+    let room = below-power 11 (c .loop-column .value) (c .loop-column .column - c .args .first) (c .loop-column .inv .2) (omega arith) in
     let digit = digit-byte (byteIn (c .args .record .now) (c .loop-column .column)) (sym (c .if-not-holds .ensures tt)) in
     search needs
 
@@ -42,4 +42,7 @@ pub returns : need.returns
 returns c =
     let past = none-left Number (c .args .record .now) (c .loop-column .column) (c .args .last + 1) (c .loop-column-test .left) in
     let e : c .loop-column .column - c .args .first ≡ c .args .last + 1 - c .args .first = omega arith in
-    λ i. judgedBytes ((sym past ∙ c .loop-column .inv .0) i) ((c .loop-column .inv .1 ∙ ap (number (c .args .record .now) (c .args .first)) e) i)
+    record {
+      value = λ i. judgedBytes ((sym past ∙ c .loop-column .inv .0) i) ((c .loop-column .inv .1 ∙ ap (number (c .args .record .now) (c .args .first)) e) i);
+      below = below-power 12 (c .loop-column .value) (c .loop-column .column - c .args .first) (c .loop-column .inv .2) (omega arith);
+    }

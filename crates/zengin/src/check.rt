@@ -1,0 +1,89 @@
+// The check: one walk over the records of a file and their fields, which ends at the first fault.
+ghost use mathlib.Core.Path.{_≡_};
+ghost use Prim.Native.Nat.{_/_, _+_, _≤_};
+ghost use lib.ListN.{length};
+ghost use Rattle.zengin.specs.Judged.{walk as walkOf, atStart, faultAt, summed, judged};
+use crate::lengths::length_denial;
+use crate::lengths::records_of;
+use crate::order::Order;
+use crate::totals::Figures;
+use crate::totals::NONE;
+use crate::totals::Tally;
+use denials::Denial;
+use denials::Fault;
+use denials::RecordFault;
+use records::fields::read_field;
+use records::layouts::layout;
+use records::layouts::sort_of;
+
+// The fault of the record at this index, counted from 0.
+fn fault_at(index: usize, fault: Fault) -> Denial
+    requires { ⌜ index ≤ 10000 ⌝ }
+    ensures { λ r. ⌜ r ≡ faultAt index fault ⌝ }
+{
+    Denial::Faulty(RecordFault {
+        record: index + 1,
+        fault,
+    })
+}
+
+// The first fault in file order, or what the file asks for.
+fn walk(file: &[u8]) -> Result<Figures, Denial>
+    requires { ⌜ length (now file) ≤ 1200000 ⌝ }
+    ensures { λ r. ⌜ r ≡ walkOf (now (file .entry)) 0 (length (now (file .entry)) / 120) atStart ⌝ }
+{
+    let records = records_of(file);
+    let mut order = Order::Start;
+    let mut tally = Tally {
+        file: Figures {
+            groups: 0,
+            requested: NONE,
+        },
+        group: NONE,
+    };
+    'file: {
+        for (index, record) in records.iter().enumerate() {
+            let Some(sort) = sort_of(record[0]) else {
+                break 'file Err(fault_at(index, Fault::OutOfOrder));
+            };
+            if !order.admit(sort) {
+                break 'file Err(fault_at(index, Fault::OutOfOrder));
+            }
+            let mut stated = NONE;
+            for number in 1..layout(sort).len() + 1 {
+                match read_field(record, sort, number) {
+                    Ok(value) => stated.note(sort, number, value),
+                    Err(fault) => break 'file Err(fault_at(index, fault)),
+                }
+            }
+            match tally.with_record(sort, stated) {
+                Ok(next) => tally = next,
+                Err(fault) => break 'file Err(fault_at(index, fault)),
+            }
+        }
+        match order {
+            Order::Ended => Ok(tally.file),
+            _ => Err(fault_at(records.len(), Fault::OutOfOrder)),
+        }
+    }
+}
+
+/// What a lawful file asks for, or the first fault of any other.
+pub fn summary(file: &[u8]) -> Result<Figures, Denial>
+    ensures { λ r. ⌜ r ≡ summed (now (file .entry)) ⌝ }
+{
+    if let Some(denial) = length_denial(file.len()) {
+        return Err(denial);
+    }
+    walk(file)
+}
+
+/// Passes exactly the lawful files, and tells the first fault of any other.
+pub fn check(file: &[u8]) -> Result<(), Denial>
+    ensures { λ r. ⌜ r ≡ judged (now (file .entry)) ⌝ }
+{
+    match summary(file) {
+        Ok(_) => Ok(()),
+        Err(denial) => Err(denial),
+    }
+}
