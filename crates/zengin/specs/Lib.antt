@@ -1,2 +1,4 @@
 pub mod Files
 pub mod Judged
+pub mod Lawful
+pub mod Offences
