@@ -32,22 +32,64 @@ pub struct Family {
 impl Family {
     /// Hands every file of the family to the judge. The name's bytes set its generator apart.
     pub fn each(&self, settings: &Settings, judge: &mut Judge) {
-        let own = self.name.bytes().fold(0, |sum: u64, byte| sum.wrapping_mul(257) + u64::from(byte));
+        let mix = |sum: u64, byte| sum.wrapping_mul(257).wrapping_add(u64::from(byte));
+        let own = self.name.bytes().fold(0, mix);
         let mut random = Random::new(settings.start.wrapping_add(own));
         (self.make)(settings, &mut random, judge);
     }
 }
 
-pub const FAMILIES: [Family; 9] = [
-    Family { name: "lawful files", lawful: Lawful::All, make: lawful_files },
-    Family { name: "every single byte changed", lawful: Lawful::AtLeastOne, make: single_bytes },
-    Family { name: "order of records", lawful: Lawful::AtLeastOne, make: orders },
-    Family { name: "trailer figures", lawful: Lawful::AtLeastOne, make: trailer_figures },
-    Family { name: "all four digits as a date", lawful: Lawful::Exactly(366), make: dates },
-    Family { name: "lengths", lawful: Lawful::AtLeastOne, make: lengths },
-    Family { name: "sums around twelve digits", lawful: Lawful::AtLeastOne, make: great_sums },
-    Family { name: "around 10,000 records", lawful: Lawful::AtLeastOne, make: many_records },
-    Family { name: "random damage", lawful: Lawful::AtLeastOne, make: random_damage },
+pub const FAMILIES: [Family; 10] = [
+    Family {
+        name: "lawful files",
+        lawful: Lawful::All,
+        make: lawful_files,
+    },
+    Family {
+        name: "every single byte changed",
+        lawful: Lawful::AtLeastOne,
+        make: single_bytes,
+    },
+    Family {
+        name: "two faults in one record",
+        lawful: Lawful::AtLeastOne,
+        make: double_faults,
+    },
+    Family {
+        name: "order of records",
+        lawful: Lawful::AtLeastOne,
+        make: orders,
+    },
+    Family {
+        name: "trailer figures",
+        lawful: Lawful::AtLeastOne,
+        make: trailer_figures,
+    },
+    Family {
+        name: "all four digits as a date",
+        lawful: Lawful::Exactly(366),
+        make: dates,
+    },
+    Family {
+        name: "lengths",
+        lawful: Lawful::AtLeastOne,
+        make: lengths,
+    },
+    Family {
+        name: "sums around twelve digits",
+        lawful: Lawful::AtLeastOne,
+        make: great_sums,
+    },
+    Family {
+        name: "around 10,000 records",
+        lawful: Lawful::AtLeastOne,
+        make: many_records,
+    },
+    Family {
+        name: "random damage",
+        lawful: Lawful::AtLeastOne,
+        make: random_damage,
+    },
 ];
 
 /// Overwrites bytes of a record from a column on; columns count from 1.
@@ -59,7 +101,11 @@ pub fn put(record: &mut Record, column: usize, bytes: &[u8]) {
 
 fn lawful_files(settings: &Settings, random: &mut Random, judge: &mut Judge) {
     for date in records::every_date() {
-        let group = [records::header(random, date), records::trailer(0, 0), records::end()];
+        let group = [
+            records::header(random, date),
+            records::trailer(0, 0),
+            records::end(),
+        ];
         judge(&group.concat());
     }
     every_choice(random, judge);
@@ -130,6 +176,15 @@ fn single_bytes(_: &Settings, random: &mut Random, judge: &mut Judge) {
     }
 }
 
+/// The file itself first, then each of its records with two faults of which one has to come first.
+fn double_faults(_: &Settings, random: &mut Random, judge: &mut Judge) {
+    let file = records::file(random, &[vec![1_500, 700]]);
+    judge(&file.concat());
+    for place in 0..file.len() {
+        damage::each_double_fault(&file, place, judge);
+    }
+}
+
 fn orders(_: &Settings, random: &mut Random, judge: &mut Judge) {
     // Five choices a record: the four sorts and one of no sort.
     for length in 3..=6 {
@@ -137,7 +192,12 @@ fn orders(_: &Settings, random: &mut Random, judge: &mut Judge) {
             judge(&sequence(random, code, length).concat());
         }
     }
-    let shapes = [vec![vec![]], vec![vec![5], vec![]], vec![vec![], vec![3, 4]], vec![vec![1, 2, 3], vec![4, 5]]];
+    let shapes = [
+        vec![vec![]],
+        vec![vec![5], vec![]],
+        vec![vec![], vec![3, 4]],
+        vec![vec![1, 2, 3], vec![4, 5]],
+    ];
     for shape in shapes {
         let file = records::file(random, &shape);
         damage::each_disorder(&file, judge);
@@ -183,8 +243,12 @@ fn each_first_byte(file: &[Record], judge: &mut Judge) {
 
 /// A good record of each sort put before every record and in the place of every record.
 fn each_stranger(random: &mut Random, file: &[Record], judge: &mut Judge) {
-    let strangers =
-        [records::header(random, 229), records::data(random, 1), records::trailer(0, 0), records::end()];
+    let strangers = [
+        records::header(random, 229),
+        records::data(random, 1),
+        records::trailer(0, 0),
+        records::end(),
+    ];
     for stranger in strangers {
         for place in 0..=file.len() {
             let mut longer = file.to_vec();
@@ -211,7 +275,10 @@ fn trailer_figures(_: &Settings, random: &mut Random, judge: &mut Judge) {
         }
         let file = records::file(random, &groups);
         judge(&file.concat());
-        let trailers: Vec<usize> = (0..file.len()).filter(|&place| file[place][0] == b'8').collect();
+        zero_amounts(random, &groups, judge);
+        let trailers: Vec<usize> = (0..file.len())
+            .filter(|&place| file[place][0] == b'8')
+            .collect();
         for (group, &place) in trailers.iter().enumerate() {
             for (count, amount) in other_figures(&groups, group) {
                 let mut changed = file.clone();
@@ -220,6 +287,15 @@ fn trailer_figures(_: &Settings, random: &mut Random, judge: &mut Judge) {
             }
             each_figure_edit(&file, place, judge);
         }
+    }
+}
+
+/// One amount of 0 more in each group: all totals are right, but a data record may not hold it.
+fn zero_amounts(random: &mut Random, groups: &[Vec<u64>], judge: &mut Judge) {
+    for place in 0..groups.len() {
+        let mut changed = groups.to_vec();
+        changed[place].push(0);
+        judge(&records::file(random, &changed).concat());
     }
 }
 
@@ -232,18 +308,34 @@ fn figures(groups: &[Vec<u64>]) -> (u64, u64) {
 /// Those that differ by a power of two show a number that is kept in too few bits.
 fn other_figures(groups: &[Vec<u64>], group: usize) -> Vec<(u64, u64)> {
     let (count, amount) = figures(&groups[group..=group]);
-    let mut stated = vec![(0, 0), (count, 0), (0, amount), (count, amount), (999_999, TWELVE_DIGITS - 1)];
+    let mut stated = vec![
+        (0, 0),
+        (count, 0),
+        (0, amount),
+        (count, amount),
+        (999_999, TWELVE_DIGITS - 1),
+    ];
     for first in 0..groups.len() {
         for last in first..groups.len() {
             let (other_count, other_amount) = figures(&groups[first..=last]);
-            stated.extend([(other_count, other_amount), (other_count, amount), (count, other_amount)]);
+            stated.extend([
+                (other_count, other_amount),
+                (other_count, amount),
+                (count, other_amount),
+            ]);
         }
     }
     for distance in [1, 1 << 8, 1 << 16] {
-        stated.extend([(count + distance, amount), (count.saturating_sub(distance), amount)]);
+        stated.extend([
+            (count + distance, amount),
+            (count.saturating_sub(distance), amount),
+        ]);
     }
     for distance in [1, 10, 1 << 16, 1 << 31, 1 << 32, 1 << 33, 100_000_000_000] {
-        stated.extend([(count, amount + distance), (count, amount.saturating_sub(distance))]);
+        stated.extend([
+            (count, amount + distance),
+            (count, amount.saturating_sub(distance)),
+        ]);
         stated.push((count + 1, amount + distance));
     }
     stated
@@ -278,7 +370,9 @@ fn dates(_: &Settings, random: &mut Random, judge: &mut Judge) {
 
 fn lengths(_: &Settings, random: &mut Random, judge: &mut Judge) {
     for fill in [b' ', b'9', b'1', 0x00, 0x1A, 0xFF] {
-        for length in [0, 1, 119, 120, 121, 239, 240, 241, 359, 360, 361, 479, 480, 481] {
+        for length in [
+            0, 1, 119, 120, 121, 239, 240, 241, 359, 360, 361, 479, 480, 481,
+        ] {
             judge(&vec![fill; length]);
         }
     }
@@ -315,8 +409,18 @@ fn great_sums(_: &Settings, random: &mut Random, judge: &mut Judge) {
 /// the sum as a shorter number of bits would hold it, the greatest number, and some of no meaning.
 fn judge_statements(random: &mut Random, amounts: &[u64], judge: &mut Judge) {
     let sum: u64 = amounts.iter().sum();
-    let mut stated = vec![sum % TWELVE_DIGITS, TWELVE_DIGITS - 1, 0, sum % (1 << 32), sum % (1 << 39)];
-    stated.push(if sum < TWELVE_DIGITS { sum } else { sum / 10 % TWELVE_DIGITS });
+    let mut stated = vec![
+        sum % TWELVE_DIGITS,
+        TWELVE_DIGITS - 1,
+        0,
+        sum % (1 << 32),
+        sum % (1 << 39),
+    ];
+    stated.push(if sum < TWELVE_DIGITS {
+        sum
+    } else {
+        sum / 10 % TWELVE_DIGITS
+    });
     stated.extend((0..10).map(|_| random.below(TWELVE_DIGITS)));
     let count = amounts.len() as u64;
     for amount in stated {
@@ -334,7 +438,9 @@ fn judge_statements(random: &mut Random, amounts: &[u64], judge: &mut Judge) {
 fn many_records(_: &Settings, random: &mut Random, judge: &mut Judge) {
     // Header, trailer and end record leave 9,997 data records, and one record more is one too many.
     for data_records in [9_996, 9_997, 9_998] {
-        let amounts: Vec<u64> = (0..data_records).map(|_| 1 + random.below(50_000_000)).collect();
+        let amounts: Vec<u64> = (0..data_records)
+            .map(|_| 1 + random.below(50_000_000))
+            .collect();
         judge(&records::file(random, &[amounts]).concat());
     }
     // 4,998 empty groups, one with a single data record, and the end record: 10,000 again.
@@ -357,7 +463,13 @@ fn unended_files(random: &mut Random, judge: &mut Judge) {
 
 /// Faults in the last records of a full file, where the record number has five digits.
 fn late_faults(full: &[Record], judge: &mut Judge) {
-    for (back, column, byte) in [(1, 120, b'0'), (1, 1, b'8'), (2, 19, b'9'), (2, 7, b'9'), (3, 112, b'1')] {
+    for (back, column, byte) in [
+        (1, 120, b'0'),
+        (1, 1, b'8'),
+        (2, 19, b'9'),
+        (2, 7, b'9'),
+        (3, 112, b'1'),
+    ] {
         let mut file = full.to_vec();
         let place = file.len() - back;
         put(&mut file[place], column, &[byte]);
@@ -367,12 +479,19 @@ fn late_faults(full: &[Record], judge: &mut Judge) {
 
 /// Lengths around and above 1,200,000 bytes, of a full lawful file with more behind it and of rubbish.
 fn long_rubbish(full: &[u8], judge: &mut Judge) {
-    for length in [full.len() - 120, full.len() - 1, full.len() + 1, full.len() + 119] {
+    for length in [
+        full.len() - 120,
+        full.len() - 1,
+        full.len() + 1,
+        full.len() + 119,
+    ] {
         let mut bytes = full.to_vec();
         bytes.resize(length, b' ');
         judge(&bytes);
     }
-    for length in [1_200_000, 1_200_001, 1_200_120, 1_200_121, 1_200_239, 1_200_240, 2_400_000, 2_400_060] {
+    for length in [
+        1_200_000, 1_200_001, 1_200_120, 1_200_121, 1_200_239, 1_200_240, 2_400_000, 2_400_060,
+    ] {
         let mut bytes = full.to_vec();
         bytes.resize(length, b'9');
         judge(&bytes);
@@ -383,6 +502,8 @@ fn long_rubbish(full: &[u8], judge: &mut Judge) {
 // ---- Random damage ----
 
 fn random_damage(settings: &Settings, random: &mut Random, judge: &mut Judge) {
+    // One file stays whole, so that the family has a lawful one however few are wanted.
+    judge(&records::some_file(random).concat());
     for _ in 0..settings.random_cases {
         let mut file = records::some_file(random);
         for _ in 0..1 + random.below(4) {

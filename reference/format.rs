@@ -22,7 +22,11 @@ pub struct Denial {
 
 impl Denial {
     const fn without_place(number: u64) -> Denial {
-        Denial { number, record: 0, column: 0 }
+        Denial {
+            number,
+            record: 0,
+            column: 0,
+        }
     }
 }
 
@@ -46,7 +50,7 @@ pub struct Group {
 // ---- Carrier ----
 
 fn keep_length_rule(length: usize) -> Result<(), Denial> {
-    if length < FEWEST_RECORDS * RECORD_LENGTH || length % RECORD_LENGTH != 0 {
+    if length < FEWEST_RECORDS * RECORD_LENGTH || !length.is_multiple_of(RECORD_LENGTH) {
         return Err(Denial::without_place(11));
     }
     if length / RECORD_LENGTH > MOST_RECORDS {
@@ -125,7 +129,9 @@ impl Rule {
 
 /// The decimal number that digits spell. The caller has seen that they are digits.
 fn number(digits: &[u8]) -> u64 {
-    digits.iter().fold(0, |value, digit| value * 10 + u64::from(digit - b'0'))
+    digits
+        .iter()
+        .fold(0, |value, digit| value * 10 + u64::from(digit - b'0'))
 }
 
 /// Month and day, from four digits read as one number.
@@ -172,15 +178,30 @@ impl Field {
 }
 
 const fn digits(first: usize, last: usize, rule: Rule) -> Field {
-    Field { first, last, class: Class::Number, rule }
+    Field {
+        first,
+        last,
+        class: Class::Number,
+        rule,
+    }
 }
 
 const fn text(first: usize, last: usize) -> Field {
-    Field { first, last, class: Class::Characters, rule: Rule::Free }
+    Field {
+        first,
+        last,
+        class: Class::Characters,
+        rule: Rule::Free,
+    }
 }
 
 const fn filler(first: usize, last: usize) -> Field {
-    Field { first, last, class: Class::Filler, rule: Rule::Free }
+    Field {
+        first,
+        last,
+        class: Class::Filler,
+        rule: Rule::Free,
+    }
 }
 
 // ---- Layouts ----
@@ -269,10 +290,15 @@ impl Sort {
 
 /// Whether every column belongs to exactly one field in each of the four tables.
 pub fn layouts_cover_every_column() -> bool {
-    [Sort::Header, Sort::Data, Sort::Trailer, Sort::End].iter().all(|sort| {
-        let columns = sort.layout().iter().flat_map(|field| field.first..=field.last);
-        columns.eq(1..=RECORD_LENGTH)
-    })
+    [Sort::Header, Sort::Data, Sort::Trailer, Sort::End]
+        .iter()
+        .all(|sort| {
+            let columns = sort
+                .layout()
+                .iter()
+                .flat_map(|field| field.first..=field.last);
+            columns.eq(1..=RECORD_LENGTH)
+        })
 }
 
 // ---- Order and check ----
@@ -323,14 +349,20 @@ impl Reading {
     }
 
     fn add_to_group(&mut self, record: &[u8]) {
-        let group = self.groups.last_mut().expect("the order lets data come only inside a group");
+        let group = self
+            .groups
+            .last_mut()
+            .expect("the order lets data come only inside a group");
         group.count += 1;
         // 10,000 amounts of ten digits stay below 10 to the 14th, far inside 64 bits.
         group.amount += number(DATA_AMOUNT.of(record));
     }
 
     fn compare_totals(&self, record: &[u8]) -> Result<(), (u64, usize)> {
-        let group = self.groups.last().expect("the order lets a trailer come only inside a group");
+        let group = self
+            .groups
+            .last()
+            .expect("the order lets a trailer come only inside a group");
         if number(COUNT_REQUESTED.of(record)) != group.count {
             return Err((16, COUNT_REQUESTED.first));
         }
@@ -343,14 +375,27 @@ impl Reading {
 
 fn open_group(header: &[u8]) -> Group {
     let (month, day) = month_and_day(number(TRANSFER_DATE.of(header)));
-    let biller_code = BILLER_CODE.of(header).iter().map(|&digit| char::from(digit)).collect();
-    Group { biller_code, month, day, count: 0, amount: 0 }
+    let biller_code = BILLER_CODE
+        .of(header)
+        .iter()
+        .map(|&digit| char::from(digit))
+        .collect();
+    Group {
+        biller_code,
+        month,
+        day,
+        count: 0,
+        amount: 0,
+    }
 }
 
 /// Judges a bare file: what it holds if it is lawful, otherwise its first offending place.
 pub fn check(bare: &[u8]) -> Result<Request, Denial> {
     keep_length_rule(bare.len())?;
-    let mut reading = Reading { standing: Standing::AtStart, groups: Vec::new() };
+    let mut reading = Reading {
+        standing: Standing::AtStart,
+        groups: Vec::new(),
+    };
     let mut place = 0;
     for record in bare.chunks(RECORD_LENGTH) {
         place += 1;
@@ -361,9 +406,16 @@ pub fn check(bare: &[u8]) -> Result<Request, Denial> {
         })?;
     }
     if reading.standing != Standing::Ended {
-        return Err(Denial { number: 13, record: place + 1, column: 1 });
+        return Err(Denial {
+            number: 13,
+            record: place + 1,
+            column: 1,
+        });
     }
-    Ok(Request { records: bare.len() / RECORD_LENGTH, groups: reading.groups })
+    Ok(Request {
+        records: bare.len() / RECORD_LENGTH,
+        groups: reading.groups,
+    })
 }
 
 /// The answer as one number, the way the C call gives it: 0 for a lawful file.

@@ -13,14 +13,19 @@ pub enum LineEnd {
     MidRecord,
 }
 
-const LINE_ENDS: [LineEnd; 5] =
-    [LineEnd::CrLf, LineEnd::Lf, LineEnd::Cr, LineEnd::None, LineEnd::MidRecord];
+const LINE_ENDS: [LineEnd; 5] = [
+    LineEnd::CrLf,
+    LineEnd::Lf,
+    LineEnd::Cr,
+    LineEnd::None,
+    LineEnd::MidRecord,
+];
 
 /// All ten raw forms of a bare file.
 pub fn every_form(bare: &[u8]) -> Vec<Vec<u8>> {
-    let forms = LINE_ENDS.iter().flat_map(|&line_end| {
-        [false, true].map(|file_end| form(bare, line_end, file_end))
-    });
+    let forms = LINE_ENDS
+        .iter()
+        .flat_map(|&line_end| [false, true].map(|file_end| form(bare, line_end, file_end)));
     forms.collect()
 }
 
@@ -40,7 +45,9 @@ pub fn form(bare: &[u8], line_end: LineEnd, file_end: bool) -> Vec<u8> {
 }
 
 fn with_ends(bare: &[u8], line_end: &[u8]) -> Vec<u8> {
-    let lines = bare.chunks(RECORD_LENGTH).map(|record| [record, line_end].concat());
+    let lines = bare
+        .chunks(RECORD_LENGTH)
+        .map(|record| [record, line_end].concat());
     lines.flatten().collect()
 }
 

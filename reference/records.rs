@@ -25,7 +25,9 @@ pub type Record = Vec<u8>;
 /// All 366 dates as month × 100 + day.
 pub fn every_date() -> Vec<u64> {
     let months = (1..).zip(DAYS_IN_MONTH);
-    months.flat_map(|(month, days)| (1..=days).map(move |day| month * 100 + day)).collect()
+    months
+        .flat_map(|(month, days)| (1..=days).map(move |day| month * 100 + day))
+        .collect()
 }
 
 pub fn header(random: &mut Random, date: u64) -> Record {
@@ -66,7 +68,14 @@ pub fn data(random: &mut Random, amount: u64) -> Record {
 }
 
 pub fn trailer(count: u64, amount: u64) -> Record {
-    [b"8".to_vec(), zero_filled(count, 6), zero_filled(amount, 12), vec![b'0'; 36], spaces(65)].concat()
+    [
+        b"8".to_vec(),
+        zero_filled(count, 6),
+        zero_filled(amount, 12),
+        vec![b'0'; 36],
+        spaces(65),
+    ]
+    .concat()
 }
 
 pub fn end() -> Record {
@@ -90,7 +99,10 @@ pub fn group_stating(random: &mut Random, amounts: &[u64], count: u64, amount: u
 
 /// A lawful file with one group for each list of amounts.
 pub fn file(random: &mut Random, groups: &[Vec<u64>]) -> Vec<Record> {
-    let mut records: Vec<Record> = groups.iter().flat_map(|amounts| group(random, amounts)).collect();
+    let mut records: Vec<Record> = groups
+        .iter()
+        .flat_map(|amounts| group(random, amounts))
+        .collect();
     records.push(end());
     records
 }

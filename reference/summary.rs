@@ -21,10 +21,19 @@ fn lawful_lines(request: &Request) -> String {
 }
 
 fn group_line(group: &Group) -> String {
-    let Group { biller_code, month, day, count, amount } = group;
+    let Group {
+        biller_code,
+        month,
+        day,
+        count,
+        amount,
+    } = group;
     format!("{biller_code} {month:02}/{day:02} {count} {amount}\n")
 }
 
 fn refused_line(denial: &Denial) -> String {
-    format!("REFUSED {} {} {}\n", denial.number, denial.record, denial.column)
+    format!(
+        "REFUSED {} {} {}\n",
+        denial.number, denial.record, denial.column
+    )
 }

@@ -6,8 +6,7 @@ use Prim.Native.Nat.{ℕ, suc, zero, _+_, _-_, _≤_, _<_}
 use native.Mathlib.Omega.{arith}
 use lib.Dec.{eqb, ltb, leb}
 use lib.ListN.{length, getD}
-use Rattle.std.proofs.shelf.Tests.{cond-true, cond-false, and-parts, leb-true, ltb-false, ne-eqb, eqb-false, cases-bool}
-use Rattle.std.proofs.shelf.Ways.{tells}
+use Rattle.std.proofs.shelf.Tests.{and-parts, leb-true, le-ltb, ltb-false, ne-eqb, eqb-false}
 use Rattle.std.specs.declared.option.Option.{Option}
 use Rattle.std.specs.declared.option.Option.the-variants.{Some, None}
 use Rattle.records.specs.declared.layouts.Sort.{Sort}
@@ -15,7 +14,7 @@ use Rattle.records.specs.declared.layouts.Sort.the-variants.{Header, Data, Tra
 use Rattle.records.specs.declared.layouts.Class.the-variants.{Number}
 use Rattle.records.specs.declared.layouts.Rule.the-variants.{Any}
 use Rattle.records.specs.declared.layouts.Field.{Field}
-use Rattle.records.specs.Layouts.{field, first, last, fieldsOf, numbered, numberedIn}
+use Rattle.records.specs.Layouts.{field, first, last, fieldsOf, numbered, numberedIn, Inside}
 use Rattle.records.specs.Fields.{isSound}
 
 abbrev allSound : List Field → Bool
@@ -33,19 +32,34 @@ each-sound [] e i d h = absurd (omega arith)
 each-sound (f ∷ fs) e zero d h = and-parts (isSound f) (allSound fs) e .0
 each-sound (f ∷ fs) e (suc i) d h = each-sound fs (and-parts (isSound f) (allSound fs) e .1) i d (omega arith)
 
--- a numbered field is the row of that number
-pub numbered-row : (fs : List Field) (n : ℕ) (f : Field) → numberedIn fs n ≡ Some f → (1 ≤ n) × (n ≤ length fs) × (f ≡ getD fs (n - 1) (field 0 0 Number Any))
-numbered-row fs n f e = go (eqb n 0) refl (ltb (length fs) n) refl
-  where
-    row : Field
-    row = getD fs (n - 1) (field 0 0 Number Any)
+pub sound-inside : (f : Field) → isSound f ≡ true → Inside f
+sound-inside f e =
+    let p = and-parts (leb 1 (first f)) _ e in
+    let q = and-parts (leb (first f) (last f)) _ (p .1) in
+    let r = and-parts (leb (last f) 120) _ (q .1) in
+    record { begins = leb-true _ _ (p .0); goes = leb-true _ _ (q .0); ends = leb-true _ _ (r .0) }
 
-    go : (a : Bool) → eqb n 0 ≡ a → (b : Bool) → ltb (length fs) n ≡ b → (1 ≤ n) × (n ≤ length fs) × (f ≡ getD fs (n - 1) (field 0 0 Number Any))
-    go true p b q = let r : numberedIn fs n ≡ None = ap (λ (t : Bool). cond (t || ltb (length fs) n) None (Some (getD fs (n - 1) (field 0 0 Number Any)))) p in let z : _≡_ {A = ℕ} 0 1 = cc in absurd (omega arith)
-    go false p true q = let r : numberedIn fs n ≡ None = ap (λ (t : Bool). cond (t || ltb (length fs) n) None (Some (getD fs (n - 1) (field 0 0 Number Any)))) p ∙ ap (λ (t : Bool). cond t None (Some (getD fs (n - 1) (field 0 0 Number Any)))) q in let z : _≡_ {A = ℕ} 0 1 = cc in absurd (omega arith)
-    go false p false q =
-        let r : numberedIn fs n ≡ Some (getD fs (n - 1) (field 0 0 Number Any)) = ap (λ (t : Bool). cond (t || ltb (length fs) n) None (Some (getD fs (n - 1) (field 0 0 Number Any)))) p ∙ ap (λ (t : Bool). cond t None (Some (getD fs (n - 1) (field 0 0 Number Any)))) q in
-        (omega (arith, eqb-false n 0 p), omega (arith, ltb-false (length fs) n q), cc)
+-- the row of that number, by the two tests
+tested-row : (fs : List Field) (n : ℕ) (a b : Bool) → eqb n 0 ≡ a → ltb (length fs) n ≡ b → numberedIn fs n ≡ cond (a || b) None (Some (getD fs (n - 1) (field 0 0 Number Any)))
+tested-row fs n a b p q = λ i. cond (p i || q i) None (Some (getD fs (n - 1) (field 0 0 Number Any)))
+
+pub row-numbered : (fs : List Field) (i : ℕ) → i < length fs → numberedIn fs (i + 1) ≡ Some (getD fs i (field 0 0 Number Any))
+row-numbered fs i h =
+    let e : i + 1 - 1 ≡ i = omega arith in
+    tested-row fs (i + 1) false false (ne-eqb (i + 1) 0 (λ z. omega arith)) (le-ltb (length fs) (i + 1) (omega arith))
+    ∙ ap (λ j. Some (getD fs j (field 0 0 Number Any))) e
+
+-- a numbered field is the row of that number
+row-tested : (fs : List Field) (n : ℕ) (f : Field) (a b : Bool) → eqb n 0 ≡ a → ltb (length fs) n ≡ b → cond (a || b) None (Some (getD fs (n - 1) (field 0 0 Number Any))) ≡ Some f → (1 ≤ n) × (n ≤ length fs) × (f ≡ getD fs (n - 1) (field 0 0 Number Any))
+row-tested fs n f true b p q e = let z : _≡_ {A = ℕ} 0 1 = cc in absurd (omega arith)
+row-tested fs n f false true p q e = let z : _≡_ {A = ℕ} 0 1 = cc in absurd (omega arith)
+row-tested fs n f false false p q e = (omega (arith, eqb-false n 0 p), omega (arith, ltb-false (length fs) n q), cc)
+
+pub numbered-row : (fs : List Field) (n : ℕ) (f : Field) → numberedIn fs n ≡ Some f → (1 ≤ n) × (n ≤ length fs) × (f ≡ getD fs (n - 1) (field 0 0 Number Any))
+numbered-row fs n f e = row-tested fs n f (eqb n 0) (ltb (length fs) n) refl refl e
+
+pub row-inside : (k : Sort) (i : ℕ) → i < length (fieldsOf k) → Inside (getD (fieldsOf k) i (field 0 0 Number Any))
+row-inside k i h = sound-inside (getD (fieldsOf k) i (field 0 0 Number Any)) (each-sound (fieldsOf k) (tables-sound k) i (field 0 0 Number Any) h)
 
 pub numbered-sound : (k : Sort) (n : ℕ) (f : Field) → numbered k n ≡ Some f → isSound f ≡ true
 numbered-sound k n f e =

@@ -1,13 +1,10 @@
 -- The fields of a record one by one, by their numbers.
 use mathlib.Core.Path.{_≡_, refl, sym, ap, _∙_}
-use mathlib.Core.Bool.{Bool, true, false, cond, _||_}
 use mathlib.Core.List.{List}
 use Prim.Native.Nat.{ℕ, suc, _+_, _-_, _≤_, _<_}
 use native.Mathlib.Omega.{arith}
-use lib.Dec.{eqb, ltb}
 use lib.ListN.{length, getD, drop}
 use Rattle.std.proofs.shelf.Lists.{at-drop-more, at-drop-all}
-use Rattle.std.proofs.shelf.Tests.{cond-false, ne-eqb, le-ltb}
 use Rattle.std.specs.declared.option.Option.{Option}
 use Rattle.std.specs.declared.option.Option.the-variants.{Some, None}
 use Rattle.std.specs.declared.result.Result.{Result}
@@ -19,13 +16,14 @@ use Rattle.records.specs.declared.layouts.Field.{Field}
 use Rattle.records.specs.declared.layouts.Sort.{Sort}
 use Rattle.records.specs.Layouts.{field, fieldsOf, numbered, sortOf}
 use Rattle.records.specs.Fields.{Bytes, byteIn, readField, readIfAny, unlessFault, testFields, testedAs, testRecord}
+use Rattle.records.proofs.Rows.{row-numbered}
 
 -- a field that the sort has
 module _ (x : Bytes) (k : Sort) (n : ℕ) (from : 1 ≤ n) (to : n ≤ length (fieldsOf k)) where
   row : numbered k n ≡ Some (getD (fieldsOf k) (n - 1) (field 0 0 Number Any))
   row =
-      ap (λ (t : Bool). cond (t || ltb (length (fieldsOf k)) n) None (Some (getD (fieldsOf k) (n - 1) (field 0 0 Number Any)))) (ne-eqb n 0 (λ z. omega arith))
-      ∙ ap (λ (t : Bool). cond t None (Some (getD (fieldsOf k) (n - 1) (field 0 0 Number Any)))) (le-ltb (length (fieldsOf k)) n to)
+      let e : n ≡ n - 1 + 1 = omega arith in
+      ap (numbered k) e ∙ row-numbered (fieldsOf k) (n - 1) (omega arith)
 
   next : {r : Result ℕ Fault} → r ≡ readIfAny x (numbered k n) → testFields x (drop (n - 1) (fieldsOf k)) ≡ unlessFault r (testFields x (drop (n - 1 + 1) (fieldsOf k)))
   next e =

@@ -1,2 +1,3 @@
 pub mod Layouts
 pub mod Fields
+pub mod Kept

@@ -1,2 +1,5 @@
+pub mod Judging
+pub mod Outcomes
+pub mod Passing
 pub mod Stated
 pub mod Walks

@@ -1,29 +1,14 @@
 -- A lawful file: groups of a header, data records and a trailer, and then one end record.
 -- Records are counted from 0 here, and columns from 1.
 use mathlib.Core.Path.{_≡_}
-use mathlib.Core.Bool.{Bool, true, cond}
 use Prim.Native.Nat.{ℕ, suc, zero, _+_, _*_, _/_, _≤_, _<_}
 use lib.ListN.{length}
-use Rattle.std.specs.declared.option.Option.{Option}
-use Rattle.std.specs.declared.option.Option.the-variants.{Some, None}
-use Rattle.records.specs.declared.layouts.Field.{Field}
-use Rattle.records.specs.declared.layouts.Sort.{Sort}
 use Rattle.records.specs.declared.layouts.Sort.the-variants.{Header, Data, Trailer, End}
-use Rattle.records.specs.Layouts.{first, last, class, rule, width, holds, keeps, sortOf, numbered}
-use Rattle.records.specs.Fields.{Bytes, byteIn, number}
+use Rattle.records.specs.Fields.{Bytes}
+use Rattle.records.specs.Kept.{Is-a}
 use Rattle.zengin.specs.declared.totals.Figures.{Figures}
 use Rattle.zengin.specs.Files.{recordAt}
 use Rattle.zengin.specs.Judged.{amountOf, countStated, amountStated}
-
--- each column of the field holds a byte of its class, and the field's number keeps its rule
-pub record Kept (x : Bytes) (f : Field) : Type 0 where
-  pub columns : (col : ℕ) → first f ≤ col → col ≤ last f → holds (class f) (byteIn x col) ≡ true
-  pub value : keeps (rule f) (number x (first f) (width f)) ≡ true
-
--- a record of that sort: its first byte tells the sort, and each of its fields is kept
-pub record Is-a (k : Sort) (x : Bytes) : Type 0 where
-  pub sort : sortOf (byteIn x 1) ≡ Some k
-  pub fields : (n : ℕ) (f : Field) → numbered k n ≡ Some f → Kept x f
 
 -- the sum of the amounts of n data records from record r on
 abbrev pub amounts : Bytes → ℕ → ℕ → ℕ

@@ -1,7 +1,6 @@
 -- The first offending place of a file: the records before it are a lawful beginning, the earlier tests of its record hold, and this one fails.
 -- Records are counted from 0 here, and columns from 1.
 use mathlib.Core.Path.{_≡_}
-use mathlib.Core.Bool.{Bool, true, false}
 use mathlib.Core.Logic.{_⊎_}
 use Prim.Native.Nat.{ℕ, _+_, _*_, _%_, _≤_, _<_}
 use lib.ListN.{length}
@@ -12,16 +11,17 @@ use Rattle.denials.specs.declared.Denial.the-variants.{BareLength, TooManyRecor
 use Rattle.denials.specs.declared.Fault.{Fault}
 use Rattle.denials.specs.declared.Fault.the-variants.{OutOfOrder, WrongByte, WrongValue, WrongCount, WrongAmount}
 use Rattle.denials.specs.declared.RecordFault.{RecordFault}
-use Rattle.records.specs.declared.layouts.Field.{Field}
+use Rattle.denials.specs.Denials.{told}
 use Rattle.records.specs.declared.layouts.Sort.{Sort}
 use Rattle.records.specs.declared.layouts.Sort.the-variants.{Header, Data, Trailer, End}
-use Rattle.records.specs.Layouts.{first, last, class, rule, width, holds, keeps, sortOf, numbered}
-use Rattle.records.specs.Fields.{Bytes, byteIn, number}
+use Rattle.records.specs.Layouts.{sortOf}
+use Rattle.records.specs.Fields.{Bytes, byteIn}
+use Rattle.records.specs.Kept.{Is-a, First-field-fault}
 use Rattle.zengin.specs.declared.order.Order.{Order}
 use Rattle.zengin.specs.declared.order.Order.the-variants.{Start, InGroup, AfterTrailer, Ended}
 use Rattle.zengin.specs.Files.{recordAt}
 use Rattle.zengin.specs.Judged.{nextOrder, amountOf, countStated, amountStated}
-use Rattle.zengin.specs.Lawful.{Kept, Is-a, amounts, Opened, Groups}
+use Rattle.zengin.specs.Lawful.{amounts, Opened, Groups}
 
 -- a beginning of a file: nothing yet, a group with its header at record s and n data records so far, whole groups, or all of a file
 pub data Place : Type 0 where
@@ -74,10 +74,6 @@ pub record Admitted (b : Bytes) (r : ℕ) (p : Place) (k : Sort) : Type 0 where
   pub next : Order
   pub follows : nextOrder (orderAt p) k ≡ Some next
 
--- its fields before field n are kept
-abbrev pub Kept-before : Bytes → Sort → ℕ → Type 0
-Kept-before x k n = (m : ℕ) (f : Field) → m < n → numbered k m ≡ Some f → Kept x f
-
 -- the first test that record r fails, after a beginning that stands at p
 pub data Offence (b : Bytes) (r : ℕ) (p : Place) : Fault → Type 0 where
   -- the file ends before its end record
@@ -86,14 +82,8 @@ pub data Offence (b : Bytes) (r : ℕ) (p : Place) : Fault → Type 0 where
   of-no-sort : r * 120 < length b → sortOf (byteIn (recordAt b r) 1) ≡ None → Offence b r p OutOfOrder
   -- its sort may not come here
   out-of-place : r * 120 < length b → (k : Sort) → sortOf (byteIn (recordAt b r) 1) ≡ Some k → nextOrder (orderAt p) k ≡ None → Offence b r p OutOfOrder
-  -- a column of field n is not of its class, and all columns before it are right
-  wrong-byte : (k : Sort) → Admitted b r p k → (n : ℕ) (f : Field) → numbered k n ≡ Some f → Kept-before (recordAt b r) k n
-      → (col : ℕ) → first f ≤ col → col ≤ last f → ((c : ℕ) → first f ≤ c → c < col → holds (class f) (byteIn (recordAt b r) c) ≡ true)
-      → holds (class f) (byteIn (recordAt b r) col) ≡ false → Offence b r p (WrongByte col)
-  -- the bytes of field n are right, and its number breaks its rule
-  wrong-value : (k : Sort) → Admitted b r p k → (n : ℕ) (f : Field) → numbered k n ≡ Some f → Kept-before (recordAt b r) k n
-      → ((c : ℕ) → first f ≤ c → c ≤ last f → holds (class f) (byteIn (recordAt b r) c) ≡ true)
-      → keeps (rule f) (number (recordAt b r) (first f) (width f)) ≡ false → Offence b r p (WrongValue (first f))
+  -- one of its fields is at fault, and the fields and columns before it are right
+  in-field : {fault : Fault} (k : Sort) → Admitted b r p k → First-field-fault k (recordAt b r) fault → Offence b r p fault
   -- a trailer whose fields are right states another count than its group's
   wrong-count : (s n : ℕ) → p ≡ in-group s n → r * 120 < length b → Is-a Trailer (recordAt b r)
       → (countStated (recordAt b r) ≡ n → ⊥) → Offence b r p WrongCount
@@ -121,3 +111,8 @@ Names-first b BareLength = (length b < 360) ⊎ (length b % 120 ≡ 0 → ⊥)
 Names-first b TooManyRecords = (length b % 120 ≡ 0) × (1200000 < length b)
 Names-first b (Faulty f) = Right-length b × First-offence b f
 Names-first b ShortBuffer = ⊥
+
+-- the place of a denial is a record of the largest file or one past it, and a column of a record
+pub record Placed (d : Denial) : Type 0 where
+  pub by-record : told d .«record» ≤ 10001
+  pub by-column : told d .column ≤ 120

@@ -2,7 +2,10 @@
 ghost use mathlib.Core.Path.{_≡_};
 ghost use Prim.Native.Nat.{_/_, _+_, _≤_};
 ghost use lib.ListN.{length};
-ghost use Rattle.zengin.specs.Judged.{walk as walkOf, atStart, faultAt, summed, judged};
+ghost use Rattle.std.specs.declared.result.Result.the-variants.{Ok, Err};
+ghost use Rattle.zengin.specs.Judged.{walk as walkOf, atStart, faultAt, summed, passed, judged};
+ghost use Rattle.zengin.specs.Lawful.{Lawful-asking, Lawful};
+ghost use Rattle.zengin.specs.Offences.{Names-first, Placed};
 use crate::lengths::length_denial;
 use crate::lengths::records_of;
 use crate::order::Order;
@@ -68,8 +71,8 @@ fn walk(file: &[u8]) -> Result<Figures, Denial>
     }
 }
 
-/// What a lawful file asks for, or the first fault of any other.
-pub fn summary(file: &[u8]) -> Result<Figures, Denial>
+// The length rule, and then the walk.
+fn figures_of(file: &[u8]) -> Result<Figures, Denial>
     ensures { λ r. ⌜ r ≡ summed (now (file .entry)) ⌝ }
 {
     if let Some(denial) = length_denial(file.len()) {
@@ -78,11 +81,31 @@ pub fn summary(file: &[u8]) -> Result<Figures, Denial>
     walk(file)
 }
 
-/// Passes exactly the lawful files, and tells the first fault of any other.
-pub fn check(file: &[u8]) -> Result<(), Denial>
-    ensures { λ r. ⌜ r ≡ judged (now (file .entry)) ⌝ }
+/// What a lawful file asks for, or the first fault of any other.
+pub fn summary(file: &[u8]) -> Result<Figures, Denial>
+    ensures answer { λ r. ⌜ r ≡ summed (now (file .entry)) ⌝ }
+    ensures passes { λ r. ⌜ ((figures : Figures) → r ≡ Ok figures → Lawful-asking (now (file .entry)) figures) ⌝ }
+    ensures lawful { λ r. ⌜ ((figures : Figures) → Lawful-asking (now (file .entry)) figures → r ≡ Ok figures) ⌝ }
+    ensures first { λ r. ⌜ ((denial : Denial) → r ≡ Err denial → Names-first (now (file .entry)) denial) ⌝ }
 {
-    match summary(file) {
+    figures_of(file)
+}
+
+/// Passes exactly the lawful files, and names the first offending place of any other.
+pub fn check(file: &[u8]) -> Result<(), Denial>
+    ensures answer { λ r. ⌜ r ≡ judged (now (file .entry)) ⌝ }
+    ensures passes { λ r. ⌜ (r ≡ Ok tt → Lawful (now (file .entry))) ⌝ }
+    ensures lawful { λ r. ⌜ (Lawful (now (file .entry)) → r ≡ Ok tt) ⌝ }
+    ensures first { λ r. ⌜ ((denial : Denial) → r ≡ Err denial → Names-first (now (file .entry)) denial) ⌝ }
+    ensures placed { λ r. ⌜ ((denial : Denial) → r ≡ Err denial → Placed denial) ⌝ }
+{
+    without_figures(summary(file))
+}
+
+fn without_figures(summary: Result<Figures, Denial>) -> Result<(), Denial>
+    ensures { λ r. ⌜ r ≡ passed summary ⌝ }
+{
+    match summary {
         Ok(_) => Ok(()),
         Err(denial) => Err(denial),
     }

@@ -1,4 +1,5 @@
 // The check of a bare request file: its length, the order of its records, their fields, and its groups' totals.
+pub mod c;
 pub mod check;
 pub mod lengths;
 mod order;

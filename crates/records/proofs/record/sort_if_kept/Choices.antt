@@ -3,7 +3,7 @@ use Prim.Native.Nat.{_-_}
 use lib.ListN.{drop}
 use Rattle.records.specs.Layouts.{fieldsOf}
 use Rattle.records.specs.Fields.{testFields}
-use Rattle.records.proofs.record.test_record.Given as given
+use Rattle.records.proofs.record.sort_if_kept.Given as given
 
 -- the fields that are left have the record's first fault
 abbrev pub Inv-loop-number : given.InvT-loop-number
