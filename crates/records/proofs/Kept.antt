@@ -101,7 +101,7 @@ module _ (x : Bytes) (f : Field) where
   field-tells : first f ≤ last f → (r : Result ℕ Fault) → readField x f ≡ r → Tells r
   field-tells l r e = subst Tells e (by-bytes l (wrongByte (class f) x (first f) (width f)) refl)
 
-  kept-read : Kept x f → readField x f ≡ Ok (valueIn x f)
+  pub kept-read : Kept x f → readField x f ≡ Ok (valueIn x f)
   unfolding Right
   kept-read k =
       ap (judgedField x f) (all-right (class f) x (first f) (width f) (λ c a z. k .bytes c a (omega arith)))

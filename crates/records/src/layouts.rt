@@ -6,6 +6,12 @@ ghost use Rattle.records.specs.Layouts.{sortOf, fieldsOf, numbered, Inside};
 /// The length of a record.
 pub const RECORD_BYTES: usize = 120;
 
+/// The number of a header's biller code among its fields.
+pub const HEADER_BILLER: usize = 4;
+
+/// The number of a header's transfer date among its fields.
+pub const HEADER_DATE: usize = 6;
+
 /// The number of a data record's amount among its fields.
 pub const DATA_AMOUNT: usize = 10;
 

@@ -1,3 +1,4 @@
+pub mod Grouping
 pub mod Judging
 pub mod Outcomes
 pub mod Passing
