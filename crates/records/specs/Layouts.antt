@@ -132,7 +132,10 @@ pub record Inside (f : Field) : Type 0 where
   pub goes : first f ≤ last f
   pub ends : last f ≤ 120
 
+abbrev pub covers : Field → ℕ → Bool
+covers f col = leb (first f) col && leb col (last f)
+
 -- the number, from n on, of the field that covers a column
 abbrev pub coveredBy : ℕ → ℕ → List Field → Option ℕ
 coveredBy col n [] = None
-coveredBy col n (f ∷ fs) = cond (leb (first f) col && leb col (last f)) (Some n) (coveredBy col (n + 1) fs)
+coveredBy col n (f ∷ fs) = cond (covers f col) (Some n) (coveredBy col (n + 1) fs)

@@ -1,7 +1,7 @@
 // The layouts of the four records: one table for each, columns counted from 1.
 ghost use mathlib.Core.Path.{_≡_};
 ghost use Rattle.std.specs.Options.{Cases as BySome};
-ghost use Rattle.records.specs.Layouts.{sortOf, fieldsOf, numbered, Inside};
+ghost use Rattle.records.specs.Layouts.{sortOf, fieldsOf, numbered, Inside, covers, coveredBy};
 
 /// The length of a record.
 pub const RECORD_BYTES: usize = 120;
@@ -138,4 +138,22 @@ pub fn numbered_field(sort: Sort, number: usize) -> Option<Field>
         return None;
     }
     Some(fields[number - 1])
+}
+
+fn is_covered(field: &Field, column: usize) -> bool
+    ensures { λ r. ⌜ r ≡ covers (now (field .entry)) column ⌝ }
+{
+    field.0 <= column && column <= field.1
+}
+
+/// The number of the field that covers a column; a record has such a field for each of its 120 columns.
+pub fn field_covering(sort: Sort, column: usize) -> Option<usize>
+    ensures { λ r. ⌜ r ≡ coveredBy column 1 (fieldsOf sort) ⌝ }
+{
+    for (index, field) in layout(sort).iter().enumerate() {
+        if is_covered(field, column) {
+            return Some(index + 1);
+        }
+    }
+    None
 }
