@@ -1,4 +1,5 @@
 pub mod Columns
 pub mod Kept
 pub mod Rows
+pub mod Tiles
 pub mod Walks

@@ -1,6 +1,8 @@
 // The layouts of the four records: one table for each, columns counted from 1.
 ghost use mathlib.Core.Path.{_≡_};
-ghost use Rattle.std.specs.Options.{Cases as BySome};
+ghost use mathlib.Core.Bool.{true};
+ghost use Prim.Native.Nat.{_≤_};
+ghost use Rattle.std.specs.Options.{Cases as BySome, isSome};
 ghost use Rattle.records.specs.Layouts.{sortOf, fieldsOf, numbered, Inside, covers, coveredBy};
 
 /// The length of a record.
@@ -146,8 +148,7 @@ fn is_covered(field: &Field, column: usize) -> bool
     field.0 <= column && column <= field.1
 }
 
-/// The number of the field that covers a column; a record has such a field for each of its 120 columns.
-pub fn field_covering(sort: Sort, column: usize) -> Option<usize>
+fn covering_number(sort: Sort, column: usize) -> Option<usize>
     ensures { λ r. ⌜ r ≡ coveredBy column 1 (fieldsOf sort) ⌝ }
 {
     for (index, field) in layout(sort).iter().enumerate() {
@@ -156,4 +157,12 @@ pub fn field_covering(sort: Sort, column: usize) -> Option<usize>
         }
     }
     None
+}
+
+/// The number of the field that covers a column; the fields of a record cover each of its 120 columns.
+pub fn field_covering(sort: Sort, column: usize) -> Option<usize>
+    ensures answer { λ r. ⌜ r ≡ coveredBy column 1 (fieldsOf sort) ⌝ }
+    ensures tiles { λ r. ⌜ (1 ≤ column → column ≤ 120 → isSome r ≡ true) ⌝ }
+{
+    covering_number(sort, column)
 }

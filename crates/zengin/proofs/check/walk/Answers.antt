@@ -19,8 +19,8 @@ loop-number-again c =
     let many = ap length (c .layout .ensures) in
     let last : c .loop-number .number ≤ length (fieldsOf (c .in-Some .sort)) = omega (arith, many, c .loop-number-test .taken) in
     let read = c .in-Ok .ensures tt .value in (
-      field-right x (c .in-Some .sort) (c .loop-number .number) (c .loop-number .kept .number) last read ∙ c .loop-number .inv .0,
-      c .note .ensures ∙ stated-more x (c .in-Some .sort) (c .loop-number .number) (c .in-Ok .value) (c .loop-number .stated) (c .loop-number .kept .number) read (c .loop-number .inv .1),
+      field-right x (c .in-Some .sort) (c .loop-number .number) (omega (arith, c .loop-number .kept .number)) last read ∙ c .loop-number .inv .0,
+      c .note .ensures ∙ stated-more x (c .in-Some .sort) (c .loop-number .number) (c .in-Ok .value) (c .loop-number .stated) (omega (arith, c .loop-number .kept .number)) read (c .loop-number .inv .1),
       subst (λ s. s .amount < 10 ^ 12) (sym (c .note .ensures)) (noted-below (c .in-Some .sort) (c .loop-number .number) (c .in-Ok .value) (c .loop-number .stated) (c .in-Ok .ensures tt .below) (c .loop-number .inv .2)),
     )
 
@@ -54,7 +54,7 @@ returns-in-Err c =
     let next = some-of (nextOrder (c .loop-index .order) (c .in-Some .sort)) (c .admit .last .self) (c .loop-index .order) (c .if-not-admit .ensures tt .answer) (c .admit .ensures .state) in
     let many = ap length (c .layout .ensures) in
     let last : c .loop-number .number ≤ length (fieldsOf (c .in-Some .sort)) = omega (arith, many, c .loop-number-test .taken) in
-    let wrong = field-wrong x (c .in-Some .sort) (c .loop-number .number) (c .loop-number .kept .number) last (c .in-Err .ensures tt .value) in
+    let wrong = field-wrong x (c .in-Some .sort) (c .loop-number .number) (omega (arith, c .loop-number .kept .number)) last (c .in-Err .ensures tt .value) in
     ap Err (c .fault-at-in-Err .ensures)
     ∙ sym (at-field (c .args .file .now) x (c .loop-index .index) (length (c .args .file .now) / 120) (c .loop-index .order) (c .loop-index .tally) on item
     (c .in-Some .sort) (sym (c .in-Some .ensures tt)) (c .admit .last .self) next (c .in-Err .fault) (sym (c .loop-number .inv .0) ∙ wrong))

@@ -2,7 +2,7 @@ use mathlib.Core.Path.{_≡_}
 use Prim.Native.Nat.{_+_}
 use lib.ListN.{drop}
 use Rattle.records.specs.Layouts.{coveredBy}
-use Rattle.records.proofs.layouts.field_covering.Given as given
+use Rattle.records.proofs.layouts.covering_number.Given as given
 
 -- the field is among those that are left
 abbrev pub Inv-loop-index : given.InvT-loop-index
