@@ -1,0 +1,27 @@
+# Two commands for newcomers: `make demo` shows the engine at work, `make test` runs the gate.
+.PHONY: demo test compare times
+
+# Proves and builds what is needed, then inspects a lawful file and a refused one.
+demo: target/bin/inspect
+	@echo "A request file of two billers:"
+	@cd samples/two-billers && ../../target/bin/inspect
+	@echo
+	@echo "The same kind of file with a trailer whose amount is one yen too high:"
+	@cd samples/gas-wrong-amount && ../../target/bin/inspect
+
+target/bin/inspect: $(shell find crates -name '*.rt' -o -name '*.antt')
+	rt check inspect
+
+test:
+	.ci/run
+
+# More cases than the gate runs: make compare CASES=1000000 START=7
+CASES = 40000
+START = 1
+compare: target/bin/inspect
+	rt staticlib zengin
+	tools/compare $(CASES) $(START)
+
+# The time to prove each crate from nothing, recorded in docs/TIMES.md.
+times:
+	tools/times
