@@ -6,7 +6,6 @@ use Rattle.denials.specs.declared.Fault.{Fault}
 use Rattle.denials.specs.declared.Fault.the-variants.{OutOfOrder, WrongByte, WrongValue, WrongCount, WrongAmount}
 use Rattle.denials.specs.declared.Layer.{Layer}
 use Rattle.denials.specs.declared.Layer.the-variants.{Carrier, Order, Record, Totals}
-use Rattle.denials.specs.declared.RecordFault.{RecordFault}
 use Rattle.denials.specs.declared.Told.{Told}
 
 abbrev pub tells : ℕ → Layer → ℕ → ℕ → Told

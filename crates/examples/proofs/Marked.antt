@@ -1,19 +1,16 @@
 -- The rules are computed on each marked file, and what they answer is what the list says.
-use mathlib.Core.Path.{_≡_, refl, sym, ap, subst, _∙_}
+use mathlib.Core.Path.{_≡_, refl, subst}
 use mathlib.Core.List.{List, [], _∷_, map}
-use Prim.Native.Nat.{ℕ}
-use native.Mathlib.Omega.{arith}
 use Rattle.std.specs.shelf.Lists.{All}
 use Rattle.std.specs.declared.result.Result.{Result}
 use Rattle.std.specs.declared.result.Result.the-variants.{Ok, Err}
 use Rattle.denials.specs.declared.Denial.{Denial}
-use Rattle.denials.specs.declared.Told.{Told}
-use Rattle.denials.specs.Denials.{told, tells}
+use Rattle.denials.specs.Denials.{told}
 use Rattle.records.specs.Fields.{Bytes, wrongByte, number}
 use Rattle.zengin.specs.declared.totals.Figures.{Figures}
 use Rattle.zengin.specs.Judged.{summed}
 use Rattle.zengin.proofs.Judging.{passes-lawful, denies-first}
-use Rattle.examples.specs.Marked.{Answer, lawful, denied, Marked, marked, Denied-for, Answered, Marked-answered}
+use Rattle.examples.specs.Marked.{Answer, lawful, denied, Marked, marked, Answered, Marked-answered}
 
 -- what the check's answer says of a file
 abbrev answerOf : Result Figures Denial → Answer

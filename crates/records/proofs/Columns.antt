@@ -1,13 +1,11 @@
 -- The columns of a field one by one: where the first wrong byte is, and which number the digits spell.
-use mathlib.Core.Path.{_≡_, refl, sym, ap, _∙_}
-use mathlib.Core.Bool.{Bool, true, false, cond}
-use mathlib.Core.Logic.{inl, inr, ⊎-elim}
-use Prim.Native.Nat.{ℕ, suc, zero, _+_, _-_, _*_, _^_, _≤_, _<_}
+use mathlib.Core.Path.{_≡_}
+use mathlib.Core.Bool.{true, false}
+use Prim.Native.Nat.{ℕ, suc, _+_, _-_, _*_, _^_, _≤_, _<_}
 use native.Mathlib.Omega.{arith}
 use native.Mathlib.Nat.{pow-suc, pow-le-pow-right}
 use lib.Dec.{leb}
-use Rattle.std.proofs.shelf.Tests.{cond-true, cond-false, cases-lt, leb-true, and-parts, cases-bool}
-use Rattle.std.specs.declared.option.Option.{Option}
+use Rattle.std.proofs.shelf.Tests.{cond-true, cond-false, leb-true, and-parts}
 use Rattle.std.specs.declared.option.Option.the-variants.{Some, None}
 use Rattle.records.specs.declared.layouts.Class.{Class}
 use Rattle.records.specs.declared.layouts.Class.the-variants.{Number}

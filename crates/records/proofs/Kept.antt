@@ -1,25 +1,24 @@
 -- A record's test finds nothing exactly if its fields are kept, and finds the first fault otherwise.
 use mathlib.Core.Path.{_≡_, refl, sym, ap, subst, _∙_}
-use mathlib.Core.Bool.{Bool, true, false, cond, _||_}
+use mathlib.Core.Bool.{Bool, true, false, cond}
 use mathlib.Core.List.{List, [], _∷_}
-use mathlib.Core.Logic.{inl, inr, ⊎-elim}
+use mathlib.Core.Logic.{⊎-elim}
 use Prim.Native.Nat.{ℕ, suc, zero, _+_, _-_, _≤_, _<_}
 use native.Mathlib.Omega.{arith}
-use lib.Dec.{eqb, ltb}
 use lib.ListN.{length, getD}
-use Rattle.std.proofs.shelf.Tests.{cond-true, cond-false, cases-lt, cases-bool, ne-eqb, le-ltb}
+use Rattle.std.proofs.shelf.Tests.{cond-true, cases-lt}
 use Rattle.std.specs.declared.option.Option.{Option}
 use Rattle.std.specs.declared.option.Option.the-variants.{Some, None}
 use Rattle.std.specs.declared.result.Result.{Result}
 use Rattle.std.specs.declared.result.Result.the-variants.{Ok, Err}
 use Rattle.denials.specs.declared.Fault.{Fault}
-use Rattle.denials.specs.declared.Fault.the-variants.{OutOfOrder, WrongByte, WrongValue}
+use Rattle.denials.specs.declared.Fault.the-variants.{WrongValue}
 use Rattle.records.specs.declared.layouts.Class.{Class}
 use Rattle.records.specs.declared.layouts.Class.the-variants.{Number}
 use Rattle.records.specs.declared.layouts.Rule.the-variants.{Any}
 use Rattle.records.specs.declared.layouts.Field.{Field}
 use Rattle.records.specs.declared.layouts.Sort.{Sort}
-use Rattle.records.specs.Layouts.{field, first, last, class, rule, width, holds, keeps, sortOf, fieldsOf, numbered, numberedIn}
+use Rattle.records.specs.Layouts.{field, first, last, class, rule, width, holds, keeps, sortOf, fieldsOf, numbered}
 use Rattle.records.specs.Fields.{Bytes, byteIn, wrongByte, number, valueIn, judgedField, readField, unlessFault, testFields, testedAs, testRecord}
 use Rattle.records.specs.Kept.{Right-before, Kept, Is-a, Field-fault, wrong-byte, wrong-value, First-field-fault, First-fault, of-no-sort, in-field}
 use Rattle.records.proofs.Rows.{numbered-row, row-numbered, row-inside}

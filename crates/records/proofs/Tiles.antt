@@ -1,5 +1,5 @@
 -- The fields of a record tile its 120 columns, by one test that is computed over each table.
-use mathlib.Core.Path.{_≡_, refl, sym, ap, _∙_}
+use mathlib.Core.Path.{_≡_, refl, ap}
 use mathlib.Core.Bool.{Bool, true, false, cond, _&&_}
 use mathlib.Core.List.{List, [], _∷_}
 use mathlib.Core.Logic.{⊎-elim}
@@ -9,7 +9,7 @@ use lib.Dec.{eqb, leb}
 use lib.ListN.{length, getD}
 use Rattle.std.specs.Options.{isSome}
 use Rattle.std.proofs.shelf.Tests.{and-parts, and-from, eqb-true, le-leb, cases-lt}
-use Rattle.std.specs.declared.option.Option.the-variants.{Some, None}
+use Rattle.std.specs.declared.option.Option.the-variants.{Some}
 use Rattle.records.specs.declared.layouts.Class.{Class}
 use Rattle.records.specs.declared.layouts.Class.the-variants.{Number}
 use Rattle.records.specs.declared.layouts.Rule.the-variants.{Any}

@@ -1,21 +1,18 @@
 -- The fields of a record one by one, by their numbers.
-use mathlib.Core.Path.{_≡_, refl, sym, ap, _∙_}
-use mathlib.Core.List.{List}
-use Prim.Native.Nat.{ℕ, suc, _+_, _-_, _≤_, _<_}
+use mathlib.Core.Path.{_≡_, sym, ap, _∙_}
+use Prim.Native.Nat.{ℕ, _+_, _-_, _≤_, _<_}
 use native.Mathlib.Omega.{arith}
 use lib.ListN.{length, getD, drop}
 use Rattle.std.proofs.shelf.Lists.{at-drop-more, at-drop-all}
-use Rattle.std.specs.declared.option.Option.{Option}
-use Rattle.std.specs.declared.option.Option.the-variants.{Some, None}
+use Rattle.std.specs.declared.option.Option.the-variants.{Some}
 use Rattle.std.specs.declared.result.Result.{Result}
 use Rattle.std.specs.declared.result.Result.the-variants.{Ok, Err}
 use Rattle.denials.specs.declared.Fault.{Fault}
 use Rattle.records.specs.declared.layouts.Class.the-variants.{Number}
 use Rattle.records.specs.declared.layouts.Rule.the-variants.{Any}
-use Rattle.records.specs.declared.layouts.Field.{Field}
 use Rattle.records.specs.declared.layouts.Sort.{Sort}
 use Rattle.records.specs.Layouts.{field, fieldsOf, numbered, sortOf}
-use Rattle.records.specs.Fields.{Bytes, byteIn, readField, readIfAny, unlessFault, testFields, testedAs, testRecord}
+use Rattle.records.specs.Fields.{Bytes, byteIn, readIfAny, unlessFault, testFields, testedAs, testRecord}
 use Rattle.records.proofs.Rows.{row-numbered}
 
 -- a field that the sort has

@@ -1,10 +1,9 @@
 -- One field of one record, and one record by itself. A record is its 120 bytes; columns count from 1.
-use mathlib.Core.Path.{_≡_}
 use mathlib.Core.Bool.{Bool, true, false, cond, not, _&&_, _||_}
 use mathlib.Core.List.{List, [], _∷_}
-use Prim.Native.Nat.{ℕ, suc, zero, _+_, _-_, _*_, _≤_}
+use Prim.Native.Nat.{ℕ, suc, zero, _+_, _-_, _*_}
 use lib.Dec.{leb}
-use lib.ListN.{length, getD}
+use lib.ListN.{getD}
 use Rattle.std.specs.declared.option.Option.{Option}
 use Rattle.std.specs.declared.option.Option.the-variants.{Some, None}
 use Rattle.std.specs.declared.result.Result.{Result}
@@ -17,7 +16,7 @@ use Rattle.records.specs.declared.layouts.Class.the-variants.{Number, Characte
 use Rattle.records.specs.declared.layouts.Field.{Field}
 use Rattle.records.specs.declared.layouts.Rule.{Rule}
 use Rattle.records.specs.declared.layouts.Rule.the-variants.{Any, Is, AtMost, NotZero, Date, BillerDeposit, PayerDeposit}
-use Rattle.records.specs.Layouts.{first, last, class, rule, width, holds, keeps, sortOf, fieldsOf, numbered}
+use Rattle.records.specs.Layouts.{first, last, class, rule, width, holds, keeps, sortOf, fieldsOf}
 
 abbrev pub Bytes : Type 0
 Bytes = List ℕ

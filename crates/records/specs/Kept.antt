@@ -1,6 +1,6 @@
 -- A record that keeps its rules, and the first of its fields that does not. A record is its 120 bytes; columns count from 1.
 use mathlib.Core.Path.{_≡_}
-use mathlib.Core.Bool.{Bool, true, false}
+use mathlib.Core.Bool.{true, false}
 use Prim.Native.Nat.{ℕ, _≤_, _<_}
 use Rattle.std.specs.declared.option.Option.the-variants.{Some, None}
 use Rattle.denials.specs.declared.Fault.{Fault}

@@ -1,24 +1,20 @@
 -- Records by their numbers, and what a group asks for, found by its trailer.
-use mathlib.Core.Path.{_≡_, refl, sym, ap, subst, _∙_}
-use mathlib.Core.Bool.{Bool, true, false, cond, _||_}
+use mathlib.Core.Path.{_≡_, refl, sym, ap, _∙_}
+use mathlib.Core.Bool.{cond, _||_}
 use mathlib.Core.List.{List, []}
-use Prim.Native.Nat.{ℕ, _+_, _-_, _*_, _/_, _≤_, _<_}
+use Prim.Native.Nat.{ℕ, _+_, _-_, _*_, _/_, _≤_}
 use native.Mathlib.Omega.{arith}
-use lib.Dec.{eqb, ltb}
 use lib.ListN.{length, getD}
 use Rattle.std.proofs.shelf.Tests.{ne-eqb, le-ltb}
-use Rattle.std.specs.declared.option.Option.{Option}
 use Rattle.std.specs.declared.option.Option.the-variants.{Some, None}
-use Rattle.std.specs.declared.result.Result.the-variants.{Ok}
 use Rattle.records.specs.declared.layouts.Class.the-variants.{Number}
 use Rattle.records.specs.declared.layouts.Rule.the-variants.{Any, Date}
 use Rattle.records.specs.declared.layouts.Sort.the-variants.{Header, Trailer}
-use Rattle.records.specs.Layouts.{field, numbered}
-use Rattle.records.specs.Fields.{Bytes, number, readIfAny}
+use Rattle.records.specs.Layouts.{field}
+use Rattle.records.specs.Fields.{Bytes, number}
 use Rattle.records.specs.Kept.{Is-a}
 use Rattle.records.proofs.Kept.{kept-read}
 use Rattle.zengin.specs.declared.totals.Totals.{Totals}
-use Rattle.zengin.specs.declared.groups.Group.{Group}
 use Rattle.zengin.specs.Files.{recordsOf, recordAt}
 use Rattle.zengin.specs.Shown.{recordNumbered}
 use Rattle.zengin.specs.Judged.{totals, countStated, amountStated}

@@ -2,7 +2,7 @@
 use mathlib.Core.Path.{_≡_, refl, sym, ap, subst, _∙_}
 use mathlib.Core.Bool.{Bool, true, false, cond}
 use mathlib.Core.Logic.{_⊎_, inl, inr}
-use Prim.Native.Nat.{ℕ, suc, zero, _+_, _-_, _*_, _/_, _%_, _≤_, _<_}
+use Prim.Native.Nat.{ℕ, _+_, _*_, _/_, _%_, _≤_, _<_}
 use native.Mathlib.Omega.{arith}
 use lib.Dec.{eqb, ltb}
 use lib.ListN.{length}
@@ -16,19 +16,18 @@ use Rattle.denials.specs.declared.Denial.{Denial}
 use Rattle.denials.specs.declared.Denial.the-variants.{BareLength, TooManyRecords, Faulty, ShortBuffer}
 use Rattle.denials.specs.declared.Fault.{Fault}
 use Rattle.denials.specs.declared.Fault.the-variants.{OutOfOrder, WrongByte, WrongValue, WrongCount, WrongAmount}
-use Rattle.denials.specs.declared.RecordFault.{RecordFault}
-use Rattle.denials.specs.Denials.{told, toldAt}
+use Rattle.denials.specs.Denials.{toldAt}
 use Rattle.records.specs.declared.layouts.Field.{Field}
 use Rattle.records.specs.Layouts.{Inside}
 use Rattle.records.specs.Fields.{Bytes}
-use Rattle.records.specs.Kept.{Field-fault, wrong-byte, wrong-value, First-field-fault}
+use Rattle.records.specs.Kept.{Field-fault, wrong-byte, wrong-value}
 use Rattle.records.proofs.Rows.{numbered-sound, sound-inside}
 use Rattle.zengin.specs.declared.totals.Figures.{Figures}
 use Rattle.zengin.specs.Files.{lengthDenial, recordAt}
-use Rattle.zengin.specs.Judged.{totals, tally, walk, atStart, walkIfFine, summed, passed, judged, coded}
+use Rattle.zengin.specs.Judged.{totals, tally, walk, atStart, walkIfFine, summed, passed}
 use Rattle.zengin.specs.Lawful.{Lawful-asking, Lawful}
-use Rattle.zengin.specs.Offences.{Place, at-start, Offence, missing, of-no-sort, out-of-place, in-field, wrong-count, wrong-amount, First-offence, Right-length, Names-first, Placed}
-use Rattle.zengin.proofs.Outcomes.{Outcome, outcome, Stands, Done, Passed, Refused}
+use Rattle.zengin.specs.Offences.{Place, at-start, Offence, missing, of-no-sort, out-of-place, in-field, wrong-count, wrong-amount, Names-first, Placed}
+use Rattle.zengin.proofs.Outcomes.{Outcome, outcome, Stands}
 use Rattle.zengin.proofs.Passing.{lawful-walks}
 
 -- The length rule.

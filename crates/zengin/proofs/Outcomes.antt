@@ -2,7 +2,7 @@
 use mathlib.Core.Path.{_≡_, refl, sym, ap, subst, _∙_}
 use mathlib.Core.Bool.{Bool, true, false, cond}
 use mathlib.Core.Logic.{_⊎_, inl, inr, ⊎-elim}
-use Prim.Native.Nat.{ℕ, suc, zero, _+_, _-_, _*_, _/_, _%_, _≤_, _<_}
+use Prim.Native.Nat.{ℕ, suc, zero, _+_, _*_, _/_, _%_, _≤_, _<_}
 use native.Mathlib.Omega.{arith}
 use lib.Dec.{eqb}
 use lib.ListN.{length}
@@ -23,14 +23,12 @@ use Rattle.records.specs.Fields.{Bytes, byteIn, testFields, unlessFault}
 use Rattle.records.specs.Kept.{Is-a}
 use Rattle.records.proofs.Kept.{fields-kept-if, fields-fault-if}
 use Rattle.zengin.specs.declared.order.Order.{Order}
-use Rattle.zengin.specs.declared.order.Order.the-variants.{Start, InGroup, AfterTrailer, Ended}
-use Rattle.zengin.specs.declared.totals.Totals.{Totals}
 use Rattle.zengin.specs.declared.totals.Figures.{Figures}
 use Rattle.zengin.specs.declared.totals.Tally.{Tally}
 use Rattle.zengin.specs.Files.{recordAt}
-use Rattle.zengin.specs.Judged.{nextOrder, hasEnded, amountOf, countStated, amountStated, totals, stated, withClaim, tally, tallied, State, paired, stepOrder, stepSort, step, faultAt, onward, walk}
-use Rattle.zengin.specs.Lawful.{amounts, Opened, Group, Groups, none, more}
-use Rattle.zengin.specs.Offences.{Place, at-start, in-group, after-trailer, at-end, orderAt, Whole-groups, Open-group, Ended-before, Begun, Admitted, Offence, missing, of-no-sort, out-of-place, in-field, wrong-count, wrong-amount, First-offence}
+use Rattle.zengin.specs.Judged.{nextOrder, hasEnded, amountOf, countStated, amountStated, totals, stated, withClaim, tally, tallied, paired, stepOrder, stepSort, faultAt, onward, walk}
+use Rattle.zengin.specs.Lawful.{amounts, Opened, Groups, none, more}
+use Rattle.zengin.specs.Offences.{Place, at-start, in-group, after-trailer, at-end, orderAt, Whole-groups, Begun, Offence, missing, of-no-sort, out-of-place, in-field, wrong-count, wrong-amount, First-offence}
 
 -- Where a walk stands: a lawful beginning, with a tally that tells its sums.
 

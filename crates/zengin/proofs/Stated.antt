@@ -1,18 +1,14 @@
 -- What a record states, field by field.
 use mathlib.Core.Path.{_≡_, refl, sym, ap, _∙_}
 use mathlib.Core.Bool.{Bool, true, false, cond}
-use mathlib.Core.List.{List}
 use Prim.Native.Nat.{ℕ, suc, zero, _+_, _-_, _^_, _≤_, _<_}
 use native.Mathlib.Omega.{arith}
 use lib.Dec.{eqb}
 use lib.ListN.{length}
-use Rattle.std.proofs.shelf.Ways.{tells}
-use Rattle.std.proofs.shelf.Tests.{cases-bool, cond-true, cond-false}
 use Rattle.std.specs.declared.option.Option.{Option}
 use Rattle.std.specs.declared.option.Option.the-variants.{Some, None}
-use Rattle.std.specs.declared.result.Result.{Result}
 use Rattle.std.specs.declared.result.Result.the-variants.{Ok, Err}
-use Rattle.denials.specs.declared.Fault.the-variants.{WrongByte, WrongValue}
+use Rattle.denials.specs.declared.Fault.the-variants.{WrongValue}
 use Rattle.records.specs.declared.layouts.Field.{Field}
 use Rattle.records.specs.declared.layouts.Sort.{Sort}
 use Rattle.records.specs.declared.layouts.Sort.the-variants.{Header, Data, Trailer, End}

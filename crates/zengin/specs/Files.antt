@@ -1,5 +1,5 @@
 -- A bare file: the lengths it may have, and its bytes as records of 120. Records are counted from 0 here.
-use mathlib.Core.Bool.{Bool, cond}
+use mathlib.Core.Bool.{cond}
 use mathlib.Core.List.{List}
 use Prim.Native.Nat.{ℕ, _*_, _/_, _%_}
 use lib.Dec.{eqb, ltb}

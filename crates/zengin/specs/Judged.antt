@@ -1,8 +1,6 @@
 -- What the check answers: the first fault in file order, or what the file asks for.
-use mathlib.Core.Path.{_≡_}
 use mathlib.Core.Bool.{Bool, true, false, cond}
-use mathlib.Core.List.{List}
-use Prim.Native.Nat.{ℕ, suc, zero, _+_, _*_, _/_, _^_, _≤_, _<_}
+use Prim.Native.Nat.{ℕ, suc, zero, _+_, _*_, _/_, _^_, _≤_}
 use lib.Dec.{eqb}
 use lib.ListN.{length}
 use Rattle.std.specs.declared.option.Option.{Option}
@@ -16,7 +14,7 @@ use Rattle.denials.specs.declared.Fault.the-variants.{OutOfOrder, WrongCount, W
 use Rattle.denials.specs.Denials.{told}
 use Rattle.records.specs.declared.layouts.Sort.{Sort}
 use Rattle.records.specs.declared.layouts.Sort.the-variants.{Header, Data, Trailer, End}
-use Rattle.records.specs.Layouts.{sortOf, fieldsOf, numbered}
+use Rattle.records.specs.Layouts.{sortOf, fieldsOf}
 use Rattle.records.specs.Fields.{Bytes, byteIn, number, testFields, unlessFault}
 use Rattle.zengin.specs.declared.order.Order.{Order}
 use Rattle.zengin.specs.declared.order.Order.the-variants.{Start, InGroup, AfterTrailer, Ended}

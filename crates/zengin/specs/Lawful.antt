@@ -1,7 +1,7 @@
 -- A lawful file: groups of a header, data records and a trailer, and then one end record.
 -- Records are counted from 0 here, and columns from 1.
 use mathlib.Core.Path.{_≡_}
-use Prim.Native.Nat.{ℕ, suc, zero, _+_, _*_, _/_, _≤_, _<_}
+use Prim.Native.Nat.{ℕ, suc, zero, _+_, _*_, _≤_, _<_}
 use lib.ListN.{length}
 use Rattle.records.specs.declared.layouts.Sort.the-variants.{Header, Data, Trailer, End}
 use Rattle.records.specs.Fields.{Bytes}

@@ -4,23 +4,22 @@ use mathlib.Core.Path.{_≡_}
 use mathlib.Core.Logic.{_⊎_}
 use Prim.Native.Nat.{ℕ, _+_, _*_, _%_, _≤_, _<_}
 use lib.ListN.{length}
-use Rattle.std.specs.declared.option.Option.{Option}
 use Rattle.std.specs.declared.option.Option.the-variants.{Some, None}
 use Rattle.denials.specs.declared.Denial.{Denial}
 use Rattle.denials.specs.declared.Denial.the-variants.{BareLength, TooManyRecords, Faulty, ShortBuffer}
 use Rattle.denials.specs.declared.Fault.{Fault}
-use Rattle.denials.specs.declared.Fault.the-variants.{OutOfOrder, WrongByte, WrongValue, WrongCount, WrongAmount}
+use Rattle.denials.specs.declared.Fault.the-variants.{OutOfOrder, WrongCount, WrongAmount}
 use Rattle.denials.specs.declared.RecordFault.{RecordFault}
 use Rattle.denials.specs.Denials.{told}
 use Rattle.records.specs.declared.layouts.Sort.{Sort}
-use Rattle.records.specs.declared.layouts.Sort.the-variants.{Header, Data, Trailer, End}
+use Rattle.records.specs.declared.layouts.Sort.the-variants.{Trailer, End}
 use Rattle.records.specs.Layouts.{sortOf}
 use Rattle.records.specs.Fields.{Bytes, byteIn}
 use Rattle.records.specs.Kept.{Is-a, First-field-fault}
 use Rattle.zengin.specs.declared.order.Order.{Order}
 use Rattle.zengin.specs.declared.order.Order.the-variants.{Start, InGroup, AfterTrailer, Ended}
 use Rattle.zengin.specs.Files.{recordAt}
-use Rattle.zengin.specs.Judged.{nextOrder, amountOf, countStated, amountStated}
+use Rattle.zengin.specs.Judged.{nextOrder, countStated, amountStated}
 use Rattle.zengin.specs.Lawful.{amounts, Opened, Groups}
 
 -- a beginning of a file: nothing yet, a group with its header at record s and n data records so far, whole groups, or all of a file

@@ -1,5 +1,5 @@
 -- Records and fields of a file by their numbers, which count from 1.
-use mathlib.Core.Bool.{Bool, cond, not, _||_}
+use mathlib.Core.Bool.{cond, not, _||_}
 use Prim.Native.Nat.{ℕ, _+_, _-_, _*_, _/_, _%_}
 use lib.Dec.{eqb, ltb}
 use lib.ListN.{length, getD, take, drop}
@@ -7,7 +7,7 @@ use Rattle.std.specs.declared.option.Option.{Option}
 use Rattle.std.specs.declared.option.Option.the-variants.{Some, None}
 use Rattle.records.specs.declared.layouts.Field.{Field}
 use Rattle.records.specs.declared.layouts.Sort.{Sort}
-use Rattle.records.specs.Layouts.{first, last, width, sortOf, numbered}
+use Rattle.records.specs.Layouts.{first, width, sortOf, numbered}
 use Rattle.records.specs.Fields.{Bytes}
 use Rattle.zengin.specs.Files.{recordAt}
 

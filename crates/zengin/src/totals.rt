@@ -1,7 +1,7 @@
 // Counts and amounts: what a record states, what a group holds so far, and what a file asks for.
 ghost use mathlib.Core.Path.{_≡_};
-ghost use Prim.Native.Nat.{_+_, _*_, _^_, _≤_, _<_};
-ghost use Rattle.zengin.specs.Judged.{noted, tallied, Few};
+ghost use Prim.Native.Nat.{_^_, _<_};
+ghost use Rattle.zengin.specs.Judged.{noted, withClaim, tallied, Few};
 use denials::Fault;
 use records::layouts::DATA_AMOUNT;
 use records::layouts::Sort;
@@ -50,7 +50,7 @@ impl Totals {
     // One data record more.
     fn with_claim(self, amount: u64) -> Totals
         requires { ⌜ self .count < 2 ^ 32 ⌝ ∗ ⌜ self .amount < 2 ^ 62 ⌝ ∗ ⌜ amount < 2 ^ 62 ⌝ }
-        ensures { λ r. ⌜ r ≡ record { count = self .count + 1; amount = self .amount + amount } ⌝ }
+        ensures { λ r. ⌜ r ≡ withClaim self amount ⌝ }
     {
         Totals {
             count: self.count + 1,

@@ -1,10 +1,9 @@
 use mathlib.Core.Path.{_≡_, refl, sym, ap, _∙_}
-use Prim.Native.Nat.{_+_, _-_, _*_, _^_, _<_, _≤_}
+use Prim.Native.Nat.{_+_, _-_, _*_}
 use native.Mathlib.Omega.{arith}
 use borrow.Author.Needs.{needs}
-use Rattle.std.specs.declared.option.Option.the-variants.{None}
 use Rattle.records.specs.declared.layouts.Class.the-variants.{Number}
-use Rattle.records.specs.Fields.{byteIn, judgedBytes, number, wrongByte}
+use Rattle.records.specs.Fields.{byteIn, judgedBytes, number}
 use Rattle.records.proofs.Columns.{right-here, wrong-here, none-left, digit-byte, number-more, number-none, below-power, next-power}
 use Rattle.records.proofs.fields.read_digits.Needs as need
 
