@@ -2,7 +2,7 @@
 use mathlib.Core.Path.{_≡_, refl, sym, ap, _∙_}
 use mathlib.Core.Bool.{Bool, true, false, cond, not}
 use mathlib.Core.List.{List, [], _∷_, _++_}
-use Prim.Native.Nat.{ℕ, suc, zero, _-_, _*_, _/_, _%_, _≤_, _<_}
+use Prim.Native.Nat.{ℕ, suc, zero, _+_, _-_, _*_, _/_, _%_, _≤_, _<_}
 use native.Mathlib.Omega.{arith}
 use lib.Dec.{ltb}
 use lib.ListN.{length, getD, take, drop}
@@ -21,6 +21,7 @@ use Rattle.denials.specs.declared.Denial.the-variants.{ShortBuffer}
 use Rattle.records.specs.Fields.{Bytes}
 use Rattle.zengin.specs.Files.{lengthDenial, recordsOf}
 use Rattle.zengin.specs.Lawful.{Lawful}
+use Rattle.zengin.proofs.Judging.{fine-length}
 use Rattle.carrier.specs.Carrier.{isKept, body, bare, lineEnd, line, packed, unlessDenied, bufferAfter, unpackAnswer, packAnswer, packBuffer, Plain, Restores}
 use Rattle.carrier.proofs.Lines.{length-chunked, lines-length, records-long}
 use Rattle.carrier.proofs.Plain.{lawful-plain}
@@ -118,3 +119,12 @@ module _ (b old out : Bytes) (told : Result ℕ Denial) (answered : told ≡ pac
 
   pub lawful-restores : Lawful b → Restores b told out
   lawful-restores lawful = plain-restores (lawful-plain b lawful)
+
+-- a lawful file is packed wherever there is room for it
+pub lawful-packs : (b old : Bytes) (r : Result ℕ Denial) → r ≡ packAnswer b (length old) → Lawful b → length b / 120 * 122 ≤ length old → r ≡ Ok (length b / 120 * 122)
+lawful-packs b old r told lawful room =
+    let l = lawful .asking in
+    let fine : lengthDenial (length b) ≡ None = ap lengthDenial (l .whole) ∙ fine-length (l .end + 1) (l .least) (l .most) in
+    told
+    ∙ ap (λ o. unlessDenied o (length b / 120 * 122) (length old)) fine
+    ∙ ap (λ (t : Bool). cond t (Err ShortBuffer) (Ok (length b / 120 * 122))) (le-ltb (length old) (length b / 120 * 122) room)

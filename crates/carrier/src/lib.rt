@@ -3,6 +3,7 @@ ghost use mathlib.Core.Path.{_≡_};
 ghost use Prim.Native.Nat.{_+_, _*_, _/_, _≤_};
 ghost use lib.ListN.{length};
 ghost use Rattle.std.specs.shelf.Lists.{kept-by};
+ghost use Rattle.std.specs.declared.result.Result.the-variants.{Ok};
 ghost use Rattle.zengin.specs.Lawful.{Lawful};
 ghost use Rattle.carrier.specs.Carrier.{isLineEnd, isKept, body as bodyOf, lineEnd, packed, over, put, unpackAnswer, unpackBuffer, packAnswer, packBuffer, Plain, Restores};
 use denials::Denial;
@@ -101,12 +102,10 @@ fn put_lines(bare: &[u8], out: &mut [u8])
     }
 }
 
-/// Writes the packed file over the front of `out`, and tells its length. Of `bare` only the length is judged.
-pub fn pack(bare: &[u8], out: &mut [u8]) -> Result<usize, Denial>
+// The length rule, room in the buffer, and then each record with its line end.
+fn pack_records(bare: &[u8], out: &mut [u8]) -> Result<usize, Denial>
     ensures answer { λ r. ⌜ r ≡ packAnswer (now (bare .entry)) (length (now (out .entry))) ⌝ }
     ensures buffer { λ _. ⌜ now (out .exit) ≡ packBuffer (now (bare .entry)) (now (out .entry)) ⌝ }
-    ensures restores { λ r. ⌜ (Lawful (now (bare .entry)) → Restores (now (bare .entry)) r (now (out .exit))) ⌝ }
-    ensures restores_plain { λ r. ⌜ (Plain (now (bare .entry)) → Restores (now (bare .entry)) r (now (out .exit))) ⌝ }
 {
     if let Some(denial) = length_denial(bare.len()) {
         return Err(denial);
@@ -117,4 +116,15 @@ pub fn pack(bare: &[u8], out: &mut [u8]) -> Result<usize, Denial>
     }
     put_lines(bare, out);
     Ok(packed_len)
+}
+
+/// Writes the packed file over the front of `out`, and tells its length. Of `bare` only the length is judged.
+pub fn pack(bare: &[u8], out: &mut [u8]) -> Result<usize, Denial>
+    ensures answer { λ r. ⌜ r ≡ packAnswer (now (bare .entry)) (length (now (out .entry))) ⌝ }
+    ensures buffer { λ _. ⌜ now (out .exit) ≡ packBuffer (now (bare .entry)) (now (out .entry)) ⌝ }
+    ensures packs { λ r. ⌜ (Lawful (now (bare .entry)) → length (now (bare .entry)) / 120 * 122 ≤ length (now (out .entry)) → r ≡ Ok (length (now (bare .entry)) / 120 * 122)) ⌝ }
+    ensures restores { λ r. ⌜ (Lawful (now (bare .entry)) → Restores (now (bare .entry)) r (now (out .exit))) ⌝ }
+    ensures restores_plain { λ r. ⌜ (Plain (now (bare .entry)) → Restores (now (bare .entry)) r (now (out .exit))) ⌝ }
+{
+    pack_records(bare, out)
 }

@@ -6,7 +6,7 @@ use mathlib.Core.Logic.{⊎-elim}
 use Prim.Native.Nat.{ℕ, suc, zero, _+_, _-_, _≤_, _<_}
 use native.Mathlib.Omega.{arith}
 use lib.ListN.{length, getD}
-use Rattle.std.proofs.shelf.Tests.{cond-true, cases-lt}
+use Rattle.std.proofs.shelf.Tests.{cond-true, cond-false, cases-lt}
 use Rattle.std.specs.declared.option.Option.{Option}
 use Rattle.std.specs.declared.option.Option.the-variants.{Some, None}
 use Rattle.std.specs.declared.result.Result.{Result}
@@ -75,6 +75,15 @@ module _ (c : Class) (x : Bytes) where
       let s : col + suc n ≡ col + 1 + n = omega arith in
       rw s (some-here (holds c (byteIn x col)) col n w refl e (some-wrong (col + 1) n w))
 
+  wrong-first : (col n w : ℕ) → col ≤ w → w < col + n → Right col w → holds c (byteIn x w) ≡ false → wrongByte c x col n ≡ Some w
+  unfolding Right wrongByte
+  wrong-first col zero w from to before here = absurd (omega arith)
+  wrong-first col (suc n) w from to before here =
+      ⊎-elim
+      (λ l. cond-true _ _ _ (before col (omega arith) l) ∙ wrong-first (col + 1) n w (omega arith) (omega arith) (λ k a z. before k (omega arith) z) here)
+      (λ l. let e : w ≡ col = omega arith in cond-false _ _ _ (subst (λ k. holds c (byteIn x k) ≡ false) e here) ∙ ap Some (sym e))
+      (cases-lt col w)
+
 -- One field.
 
 module _ (x : Bytes) (f : Field) where
@@ -105,6 +114,13 @@ module _ (x : Bytes) (f : Field) where
   kept-read k =
       ap (judgedField x f) (all-right (class f) x (first f) (width f) (λ c a z. k .bytes c a (omega arith)))
       ∙ cond-true _ _ _ (k .value)
+
+  fault-read : {g : Fault} → Field-fault x f g → readField x f ≡ Err g
+  unfolding Right
+  fault-read (wrong-byte col from to before here) =
+      ap (judgedField x f) (wrong-first (class f) x (first f) (width f) col from (omega arith) before here)
+  fault-read (wrong-value right here) =
+      ap (judgedField x f) (all-right (class f) x (first f) (width f) (λ c a z. right c a (omega arith))) ∙ cond-false _ _ _ here
 
 -- The fields of a record.
 
@@ -148,6 +164,13 @@ module _ (x : Bytes) (d : Field) where
   fields-kept [] k = refl
   fields-kept (f ∷ fs) k =
       ap (λ r. unlessFault r (testFields x fs)) (kept-read x f (k 0 (omega arith))) ∙ fields-kept fs (λ i h. k (suc i) (omega arith))
+
+  fields-faulty : (fs : List Field) (i : ℕ) (g : Fault) → i < length fs → ((j : ℕ) → j < i → Kept x (getD fs j d)) → readField x (getD fs i d) ≡ Err g → testFields x fs ≡ Err g
+  fields-faulty [] i g h before here = absurd (omega arith)
+  fields-faulty (f ∷ fs) zero g h before here = ap (λ r. unlessFault r (testFields x fs)) here
+  fields-faulty (f ∷ fs) (suc i) g h before here =
+      ap (λ r. unlessFault r (testFields x fs)) (kept-read x f (before 0 (omega arith)))
+      ∙ fields-faulty fs i g (omega arith) (λ j l. before (suc j) (omega arith)) here
 
 -- A record of a sort.
 
@@ -194,6 +217,14 @@ module _ (k : Sort) (x : Bytes) where
   unfolding none
   fields-if-kept kept = fields-kept x none (fieldsOf k) (λ i h. kept (i + 1) (getD (fieldsOf k) i (field 0 0 Number Any)) (row-numbered (fieldsOf k) i h))
 
+  pub fields-if-fault : (g : Fault) → First-field-fault k x g → testFields x (fieldsOf k) ≡ Err g
+  unfolding none
+  fields-if-fault g first-one =
+      let p = numbered-row (fieldsOf k) (first-one .number) (first-one .field) (first-one .is) in
+      fields-faulty x none (fieldsOf k) (first-one .number - 1) g (omega (arith, p .0, p .1))
+      (λ j l. first-one .before (j + 1) (getD (fieldsOf k) j (field 0 0 Number Any)) (omega (arith, p .0)) (row-numbered (fieldsOf k) j (omega (arith, p .1))))
+      (subst (λ f. readField x f ≡ Err g) (p .2) (fault-read x (first-one .field) (first-one .here)))
+
 -- A record by itself.
 
 module _ (x : Bytes) where
@@ -228,3 +259,7 @@ module _ (x : Bytes) where
   pub record-kept : (r : Result Sort Fault) → r ≡ testRecord x → (k : Sort) → Is-a k x → r ≡ Ok k
   record-kept r e k kept =
       e ∙ tested (Some k) (kept .sort) ∙ ap (λ t. unlessFault t (Ok k)) (fields-if-kept k x (kept .fields))
+
+  pub record-named : (r : Result Sort Fault) → r ≡ testRecord x → (g : Fault) → First-fault x g → r ≡ Err g
+  record-named r e g (of-no-sort is) = e ∙ tested None is
+  record-named r e g (in-field k is fault) = e ∙ tested (Some k) is ∙ ap (λ t. unlessFault t (Ok k)) (fields-if-fault k x g fault)

@@ -16,17 +16,12 @@ use Rattle.records.specs.declared.layouts.Rule.the-variants.{Any}
 use Rattle.records.specs.declared.layouts.Field.{Field}
 use Rattle.records.specs.declared.layouts.Sort.{Sort}
 use Rattle.records.specs.declared.layouts.Sort.the-variants.{Header, Data, Trailer, End}
-use Rattle.records.specs.Layouts.{field, first, last, class, holds, fieldsOf, covers, coveredBy}
+use Rattle.records.specs.Layouts.{field, first, last, class, holds, fieldsOf, covers, coveredBy, tiles}
 use Rattle.records.specs.Fields.{Bytes, byteIn}
 use Rattle.records.specs.Kept.{Is-a}
 use Rattle.records.proofs.Rows.{row-numbered}
 
--- each field begins right after the one before, from that column on, and the last one ends at column 120
-abbrev tiles : ℕ → List Field → Bool
-tiles from [] = eqb from 121
-tiles from (f ∷ fs) = eqb (first f) from && tiles (last f + 1) fs
-
-tables-tile : (k : Sort) → tiles 1 (fieldsOf k) ≡ true
+pub tables-tile : (k : Sort) → tiles 1 (fieldsOf k) ≡ true
 tables-tile Header = refl
 tables-tile Data = refl
 tables-tile Trailer = refl

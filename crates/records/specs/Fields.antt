@@ -35,6 +35,10 @@ unfoldable pub number : Bytes → ℕ → ℕ → ℕ
 number x col zero = 0
 number x col (suc n) = number x col n * 10 + (byteIn x (col + n) - 48)
 
+-- the number in a field
+abbrev pub numberIn : Bytes → Field → ℕ
+numberIn x f = number x (first f) (width f)
+
 abbrev pub isNumber : Class → Bool
 isNumber Number = true
 isNumber Character = false
@@ -60,7 +64,7 @@ isSound f = leb 1 (first f) && (leb (first f) (last f) && (leb (last f) 120 && (
 
 -- the number in a field that is read as one
 abbrev pub valueIn : Bytes → Field → ℕ
-valueIn x f = cond (isRead f) (number x (first f) (width f)) 0
+valueIn x f = cond (isRead f) (numberIn x f) 0
 
 -- a field's bytes come before its number
 abbrev pub judgedBytes : {X : Type 0} → Option ℕ → X → Result X Fault
@@ -69,7 +73,7 @@ judgedBytes None v = Ok v
 
 abbrev pub judgedField : Bytes → Field → Option ℕ → Result ℕ Fault
 judgedField x f (Some col) = Err (WrongByte col)
-judgedField x f None = cond (keeps (rule f) (number x (first f) (width f))) (Ok (valueIn x f)) (Err (WrongValue (first f)))
+judgedField x f None = cond (keeps (rule f) (numberIn x f)) (Ok (valueIn x f)) (Err (WrongValue (first f)))
 
 -- the field's number, or its fault: a wrong byte before a wrong value
 abbrev pub readField : Bytes → Field → Result ℕ Fault

@@ -7,8 +7,8 @@ use Rattle.denials.specs.declared.Fault.{Fault}
 use Rattle.denials.specs.declared.Fault.the-variants.{OutOfOrder, WrongByte, WrongValue}
 use Rattle.records.specs.declared.layouts.Field.{Field}
 use Rattle.records.specs.declared.layouts.Sort.{Sort}
-use Rattle.records.specs.Layouts.{first, last, class, rule, width, holds, keeps, sortOf, numbered}
-use Rattle.records.specs.Fields.{Bytes, byteIn, number}
+use Rattle.records.specs.Layouts.{first, last, class, rule, holds, keeps, sortOf, numbered}
+use Rattle.records.specs.Fields.{Bytes, byteIn, numberIn}
 
 -- the field's columns before col hold bytes of its class
 abbrev pub Right-before : Bytes → Field → ℕ → Type 0
@@ -21,7 +21,7 @@ Right-bytes x f = (c : ℕ) → first f ≤ c → c ≤ last f → holds (class 
 -- a field is kept: its bytes are right, and its number keeps its rule
 pub record Kept (x : Bytes) (f : Field) : Type 0 where
   pub bytes : Right-bytes x f
-  pub value : keeps (rule f) (number x (first f) (width f)) ≡ true
+  pub value : keeps (rule f) (numberIn x f) ≡ true
 
 -- a record of that sort: its first byte tells the sort, and each of its fields is kept
 pub record Is-a (k : Sort) (x : Bytes) : Type 0 where
@@ -31,7 +31,7 @@ pub record Is-a (k : Sort) (x : Bytes) : Type 0 where
 -- the first fault of a field: a wrong byte, the columns before it right; or a wrong value, all its bytes right
 pub data Field-fault (x : Bytes) (f : Field) : Fault → Type 0 where
   wrong-byte : (col : ℕ) → first f ≤ col → col ≤ last f → Right-before x f col → holds (class f) (byteIn x col) ≡ false → Field-fault x f (WrongByte col)
-  wrong-value : Right-bytes x f → keeps (rule f) (number x (first f) (width f)) ≡ false → Field-fault x f (WrongValue (first f))
+  wrong-value : Right-bytes x f → keeps (rule f) (numberIn x f) ≡ false → Field-fault x f (WrongValue (first f))
 
 -- the first fault among the fields of a record of that sort: it is in field n, and the fields before are kept
 pub record First-field-fault (k : Sort) (x : Bytes) (fault : Fault) : Type 0 where

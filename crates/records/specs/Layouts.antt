@@ -37,14 +37,33 @@ rule f = f .3
 abbrev pub width : Field → ℕ
 width f = last f + 1 - first f
 
+-- The fields that are read for what they state.
+
+abbrev pub billerCode : Field
+billerCode = field 5 14 Number Any
+
+abbrev pub transferDate : Field
+transferDate = field 55 58 Number Date
+
+abbrev pub dataAmount : Field
+dataAmount = field 81 90 Number NotZero
+
+abbrev pub trailerCount : Field
+trailerCount = field 2 7 Number Any
+
+abbrev pub trailerAmount : Field
+trailerAmount = field 8 19 Number Any
+
+-- The layouts.
+
 abbrev pub fieldsOf : Sort → List Field
 fieldsOf Header =
     field 1 1 Number (Is 1) ∷
     field 2 3 Number (Is 91) ∷
     field 4 4 Number (Is 0) ∷
-    field 5 14 Number Any ∷
+    billerCode ∷
     field 15 54 Character Any ∷
-    field 55 58 Number Date ∷
+    transferDate ∷
     field 59 62 Number Any ∷
     field 63 77 Character Any ∷
     field 78 80 Number Any ∷
@@ -63,7 +82,7 @@ fieldsOf Data =
     field 43 43 Number PayerDeposit ∷
     field 44 50 Number Any ∷
     field 51 80 Character Any ∷
-    field 81 90 Number NotZero ∷
+    dataAmount ∷
     field 91 91 Number (AtMost 2) ∷
     field 92 111 Number Any ∷
     field 112 112 Number (Is 0) ∷
@@ -71,8 +90,8 @@ fieldsOf Data =
     []
 fieldsOf Trailer =
     field 1 1 Number (Is 8) ∷
-    field 2 7 Number Any ∷
-    field 8 19 Number Any ∷
+    trailerCount ∷
+    trailerAmount ∷
     field 20 25 Number (Is 0) ∷
     field 26 37 Number (Is 0) ∷
     field 38 43 Number (Is 0) ∷
@@ -138,3 +157,8 @@ covers f col = leb (first f) col && leb col (last f)
 abbrev pub coveredBy : ℕ → ℕ → List Field → Option ℕ
 coveredBy col n [] = None
 coveredBy col n (f ∷ fs) = cond (covers f col) (Some n) (coveredBy col (n + 1) fs)
+
+-- each field begins right after the one before, from that column on, and the last one ends at column 120
+abbrev pub tiles : ℕ → List Field → Bool
+tiles from [] = eqb from 121
+tiles from (f ∷ fs) = eqb (first f) from && tiles (last f + 1) fs

@@ -12,7 +12,7 @@ use crate::layouts::Sort;
 use crate::layouts::numbered_field;
 use denials::Fault;
 
-/// The most digits of a field that is read as one number.
+// The most digits of a field that is read as one number.
 const MOST_DIGITS: usize = 12;
 
 // No year is known, so February has 29 days.
@@ -109,7 +109,7 @@ fn read(record: &[u8; 120], field: Field) -> Result<u64, Fault>
     }
 }
 
-/// Tests the field of that number, and tells its number if it is read as one. A field that the sort has not is not at fault.
+/// Tests the field of that number, and tells what its digits spell: 0 where the field is no number, has more than 12 digits, or is none of the sort's.
 pub fn read_field(record: &[u8; 120], sort: Sort, number: usize) -> Result<u64, Fault>
     ensures value { λ r. ⌜ r ≡ readIfAny (now («record» .entry)) (numbered sort number) ⌝ }
     ensures below { λ r. ⌜ Cases r (λ v. v < 10 ^ 12) (λ _. Unit {0}) ⌝ }

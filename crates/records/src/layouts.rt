@@ -3,7 +3,7 @@ ghost use mathlib.Core.Path.{_≡_};
 ghost use mathlib.Core.Bool.{true};
 ghost use Prim.Native.Nat.{_≤_};
 ghost use Rattle.std.specs.Options.{Cases as BySome, isSome};
-ghost use Rattle.records.specs.Layouts.{sortOf, fieldsOf, numbered, Inside, covers, coveredBy};
+ghost use Rattle.records.specs.Layouts.{sortOf, fieldsOf, numbered, Inside, covers, coveredBy, tiles};
 
 /// The length of a record.
 pub const RECORD_BYTES: usize = 120;
@@ -145,7 +145,8 @@ pub fn numbered_field(sort: Sort, number: usize) -> Option<Field>
 fn is_covered(field: &Field, column: usize) -> bool
     ensures { λ r. ⌜ r ≡ covers (now (field .entry)) column ⌝ }
 {
-    field.0 <= column && column <= field.1
+    let Field(first, last, _, _) = *field;
+    first <= column && column <= last
 }
 
 fn covering_number(sort: Sort, column: usize) -> Option<usize>
@@ -159,10 +160,11 @@ fn covering_number(sort: Sort, column: usize) -> Option<usize>
     None
 }
 
-/// The number of the field that covers a column; the fields of a record cover each of its 120 columns.
+/// The number of the field that covers a column. The fields of a record tile its 120 columns.
 pub fn field_covering(sort: Sort, column: usize) -> Option<usize>
     ensures answer { λ r. ⌜ r ≡ coveredBy column 1 (fieldsOf sort) ⌝ }
-    ensures tiles { λ r. ⌜ (1 ≤ column → column ≤ 120 → isSome r ≡ true) ⌝ }
+    ensures covers { λ r. ⌜ (1 ≤ column → column ≤ 120 → isSome r ≡ true) ⌝ }
+    ensures tiles { λ _. ⌜ tiles 1 (fieldsOf sort) ≡ true ⌝ }
 {
     covering_number(sort, column)
 }

@@ -28,6 +28,7 @@ pub fn test_record(record: &[u8; 120]) -> Result<Sort, Fault>
     ensures passes { λ r. ⌜ ((k : Sort) → r ≡ Ok k → Is-a k (now («record» .entry))) ⌝ }
     ensures kept { λ r. ⌜ ((k : Sort) → Is-a k (now («record» .entry)) → r ≡ Ok k) ⌝ }
     ensures first { λ r. ⌜ ((fault : Fault) → r ≡ Err fault → First-fault (now («record» .entry)) fault) ⌝ }
+    ensures named { λ r. ⌜ ((fault : Fault) → First-fault (now («record» .entry)) fault → r ≡ Err fault) ⌝ }
 {
     sort_if_kept(record)
 }

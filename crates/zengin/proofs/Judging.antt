@@ -16,7 +16,7 @@ use Rattle.denials.specs.declared.Denial.{Denial}
 use Rattle.denials.specs.declared.Denial.the-variants.{BareLength, TooManyRecords, Faulty, ShortBuffer}
 use Rattle.denials.specs.declared.Fault.{Fault}
 use Rattle.denials.specs.declared.Fault.the-variants.{OutOfOrder, WrongByte, WrongValue, WrongCount, WrongAmount}
-use Rattle.denials.specs.Denials.{toldAt}
+use Rattle.denials.specs.Denials.{told, toldAt}
 use Rattle.records.specs.declared.layouts.Field.{Field}
 use Rattle.records.specs.Layouts.{Inside}
 use Rattle.records.specs.Fields.{Bytes}
@@ -24,7 +24,7 @@ use Rattle.records.specs.Kept.{Field-fault, wrong-byte, wrong-value}
 use Rattle.records.proofs.Rows.{numbered-sound, sound-inside}
 use Rattle.zengin.specs.declared.totals.Figures.{Figures}
 use Rattle.zengin.specs.Files.{lengthDenial, recordAt}
-use Rattle.zengin.specs.Judged.{totals, tally, walk, atStart, walkIfFine, summed, passed}
+use Rattle.zengin.specs.Judged.{totals, tally, walk, atStart, walkIfFine, summed, passed, coded}
 use Rattle.zengin.specs.Lawful.{Lawful-asking, Lawful}
 use Rattle.zengin.specs.Offences.{Place, at-start, Offence, missing, of-no-sort, out-of-place, in-field, wrong-count, wrong-amount, Names-first, Placed}
 use Rattle.zengin.proofs.Outcomes.{Outcome, outcome, Stands}
@@ -167,3 +167,22 @@ module _ (b : Bytes) (s : Result Figures Denial) (is : s ≡ summed b) where
 
   pub check-first : (r : Result (Unit {0}) Denial) → r ≡ passed s → (d : Denial) → r ≡ Err d → Names-first b d
   check-first r e d p = refused-first s is d (sym e ∙ p)
+
+-- In one number.
+
+number-some : (d : Denial) → 1 ≤ told d .number
+number-some BareLength = omega arith
+number-some TooManyRecords = omega arith
+number-some (Faulty f) = fault-some (f .fault)
+  where
+    fault-some : (g : Fault) → 1 ≤ toldAt (f .«record») g .number
+    fault-some OutOfOrder = omega arith
+    fault-some (WrongByte col) = omega arith
+    fault-some (WrongValue col) = omega arith
+    fault-some WrongCount = omega arith
+    fault-some WrongAmount = omega arith
+number-some ShortBuffer = omega arith
+
+pub coded-zero : (r : Result (Unit {0}) Denial) → coded r ≡ 0 → r ≡ Ok tt
+coded-zero (Ok done) e = refl
+coded-zero (Err d) e = absurd (omega (arith, number-some d))

@@ -22,22 +22,22 @@ use Rattle.zengin.specs.Lawful.{amounts, Opened, Group, Groups, none, more, La
 use Rattle.zengin.proofs.Walks.{goes-on, at-end}
 
 -- where the order stands after g groups
-orderAfter : ℕ → Order
+unfoldable pub orderAfter : ℕ → Order
 orderAfter zero = Start
 orderAfter (suc g) = AfterTrailer
 
-header-follows : (g : ℕ) → nextOrder (orderAfter g) Header ≡ Some InGroup
+pub header-follows : (g : ℕ) → nextOrder (orderAfter g) Header ≡ Some InGroup
 unfolding orderAfter
 header-follows zero = refl
 header-follows (suc g) = refl
 
 module _ (b : Bytes) (end : ℕ) where
   -- the walk goes on past a record of that sort
-  past : (k : Sort) (r : ℕ) (o o′ : Order) (t t′ : Tally) → r < end → Is-a k (recordAt b r) → nextOrder o k ≡ Some o′ → tallied k (stated (recordAt b r) k) t ≡ Ok t′ → walk b r (end - r) (o, t) ≡ walk b (r + 1) (end - (r + 1)) (o′, t′)
+  pub past : (k : Sort) (r : ℕ) (o o′ : Order) (t t′ : Tally) → r < end → Is-a k (recordAt b r) → nextOrder o k ≡ Some o′ → tallied k (stated (recordAt b r) k) t ≡ Ok t′ → walk b r (end - r) (o, t) ≡ walk b (r + 1) (end - (r + 1)) (o′, t′)
   past k r o o′ t t′ on is next told = goes-on b (recordAt b r) r end o t on refl k (is .sort) o′ next t′ (fields-if-kept k (recordAt b r) (is .fields)) told
 
   -- a group that is open, after i of its data records
-  inside : (s n : ℕ) → Opened b s n → s + n < end → (g count amount : ℕ) (i : ℕ) → i ≤ n
+  pub inside : (s n : ℕ) → Opened b s n → s + n < end → (g count amount : ℕ) (i : ℕ) → i ≤ n
       → walk b (s + 1) (end - (s + 1)) (InGroup, tally g (totals count amount) (totals 0 0))
       ≡ walk b (s + 1 + i) (end - (s + 1 + i)) (InGroup, tally g (totals (count + i) (amount + amounts b (s + 1) i)) (totals i (amounts b (s + 1) i)))
   inside s n opened on g count amount zero h =
@@ -55,9 +55,9 @@ module _ (b : Bytes) (end : ℕ) where
       ∙ (λ j. walk b (sym r j) (end - sym r j) (InGroup, tally g (totals (sym c j) (sym a j)) (totals (sym m j) (amounts b (s + 1) (suc i)))))
 
   -- the walk from the start comes to the end of g groups
-  record Came (g count amount s : ℕ) : Type 0 where
-    group : Totals
-    by : walk b 0 (end - 0) atStart ≡ walk b s (end - s) (orderAfter g, tally g (totals count amount) group)
+  pub record Came (g count amount s : ℕ) : Type 0 where
+    pub group : Totals
+    pub by : walk b 0 (end - 0) atStart ≡ walk b s (end - s) (orderAfter g, tally g (totals count amount) group)
 
   whole-group : (g count amount s n : ℕ) (t : Totals) → Group b s n → s + n + 1 < end
       → walk b s (end - s) (orderAfter g, tally g (totals count amount) t)
@@ -69,7 +69,7 @@ module _ (b : Bytes) (end : ℕ) where
       ∙ past Trailer (s + 1 + n) InGroup AfterTrailer (tally (g + 1) (totals (count + n) (amount + amounts b (s + 1) n)) (totals n (amounts b (s + 1) n))) (tally (g + 1) (totals (count + n) (amount + amounts b (s + 1) n)) (totals n (amounts b (s + 1) n))) (omega arith) (group .trailer) refl
       (cond-true _ _ _ (eq-eqb (countStated (recordAt b (s + 1 + n))) n (group .count)) ∙ cond-true _ _ _ (eq-eqb (amountStated (recordAt b (s + 1 + n))) (amounts b (s + 1) n) (group .amount)))
 
-  came : {g count amount s : ℕ} → Groups b g count amount s → s < end → Came g count amount s
+  pub came : {g count amount s : ℕ} → Groups b g count amount s → s ≤ end → Came g count amount s
   unfolding orderAfter
   came {g} {count} {amount} {s} (none a c m z) on = record {
     group = totals 0 0;
@@ -85,7 +85,7 @@ module _ (b : Bytes) (end : ℕ) where
       }
 
   -- after at least one group the end record may come
-  end-follows : (g : ℕ) → 1 ≤ g → nextOrder (orderAfter g) End ≡ Some Ended
+  pub end-follows : (g : ℕ) → 1 ≤ g → nextOrder (orderAfter g) End ≡ Some Ended
   unfolding orderAfter
   end-follows zero h = absurd (omega arith)
   end-follows (suc g) h = refl

@@ -22,6 +22,7 @@ use Rattle.records.specs.declared.layouts.Sort.the-variants.{Header, Data, Trai
 use Rattle.records.specs.Layouts.{sortOf, fieldsOf}
 use Rattle.records.specs.Fields.{Bytes, byteIn, testFields, unlessFault}
 use Rattle.zengin.specs.declared.order.Order.{Order}
+use Rattle.zengin.specs.declared.order.Order.the-variants.{Start, InGroup, AfterTrailer, Ended}
 use Rattle.zengin.specs.declared.totals.Totals.{Totals}
 use Rattle.zengin.specs.declared.totals.Figures.{Figures}
 use Rattle.zengin.specs.declared.totals.Tally.{Tally}
@@ -88,6 +89,12 @@ module _ (b x : Bytes) (r end : ℕ) (o : Order) (t : Tally) (on : r < end) (ite
 -- the end of a walk
 pub at-end : (b : Bytes) (r end : ℕ) (o : Order) (t : Tally) → end ≤ r → walk b r (end - r) (o, t) ≡ cond (hasEnded o) (Ok (t .file)) (Err (faultAt r OutOfOrder))
 at-end b r end o t h = let e : end - r ≡ 0 = omega arith in rw e
+
+pub not-ended : (o : Order) → (o ≡ Ended → ⊥) → hasEnded o ≡ false
+not-ended Start h = refl
+not-ended InGroup h = refl
+not-ended AfterTrailer h = refl
+not-ended Ended h = absurd (h refl)
 
 -- the tally stays small
 few-of : (n : ℕ) (t t′ : Tally) → _≡_ {A = Result Tally Fault} (Ok t′) (Ok t) → Few n t → Few n t′

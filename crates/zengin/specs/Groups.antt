@@ -1,4 +1,5 @@
 -- What one group of a file asks for, found by its trailer. Record numbers count from 1.
+use mathlib.Core.Path.{_≡_}
 use Prim.Native.Nat.{ℕ, _+_, _-_, _/_, _%_}
 use Rattle.std.specs.declared.option.Option.{Option}
 use Rattle.std.specs.declared.option.Option.the-variants.{Some, None}
@@ -7,14 +8,14 @@ use Rattle.std.specs.declared.result.Result.the-variants.{Ok, Err}
 use Rattle.denials.specs.declared.Fault.{Fault}
 use Rattle.records.specs.declared.layouts.Sort.{Sort}
 use Rattle.records.specs.declared.layouts.Sort.the-variants.{Header, Data, Trailer, End}
-use Rattle.records.specs.Layouts.{sortOf, numbered}
-use Rattle.records.specs.Fields.{Bytes, byteIn, number, readIfAny}
+use Rattle.records.specs.Layouts.{billerCode, transferDate, sortOf, numbered}
+use Rattle.records.specs.Fields.{Bytes, byteIn, numberIn, readIfAny}
 use Rattle.zengin.specs.declared.totals.Totals.{Totals}
 use Rattle.zengin.specs.declared.groups.Group.{Group}
 use Rattle.zengin.specs.Files.{recordAt}
 use Rattle.zengin.specs.Shown.{recordNumbered}
 use Rattle.zengin.specs.Judged.{totals}
-use Rattle.zengin.specs.Lawful.{amounts}
+use Rattle.zengin.specs.Lawful.{amounts, Group as Group-at}
 
 -- two fields that can be read
 abbrev pub bothRead : {X : Type 0} → (ℕ → ℕ → X) → Result ℕ Fault → Result ℕ Fault → Option X
@@ -68,4 +69,12 @@ groupClosedBy b r =
 
 -- what a group with its header at record s, counted from 0, and n data records asks for
 abbrev pub groupAsking : Bytes → ℕ → ℕ → Group
-groupAsking b s n = group (number (recordAt b s) 5 10) (number (recordAt b s) 55 4) (totals n (amounts b (s + 1) n))
+groupAsking b s n = group (numberIn (recordAt b s) billerCode) (numberIn (recordAt b s) transferDate) (totals n (amounts b (s + 1) n))
+
+-- record r closes a group of the file, and g is what that group asks for
+pub record Closes (b : Bytes) (r : ℕ) (g : Group) : Type 0 where
+  pub header : ℕ
+  pub claims : ℕ
+  pub group-there : Group-at b header claims
+  pub number : r ≡ header + 1 + claims + 1
+  pub asks : g ≡ groupAsking b header claims

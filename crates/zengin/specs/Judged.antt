@@ -14,8 +14,8 @@ use Rattle.denials.specs.declared.Fault.the-variants.{OutOfOrder, WrongCount, W
 use Rattle.denials.specs.Denials.{told}
 use Rattle.records.specs.declared.layouts.Sort.{Sort}
 use Rattle.records.specs.declared.layouts.Sort.the-variants.{Header, Data, Trailer, End}
-use Rattle.records.specs.Layouts.{sortOf, fieldsOf}
-use Rattle.records.specs.Fields.{Bytes, byteIn, number, testFields, unlessFault}
+use Rattle.records.specs.Layouts.{dataAmount, trailerCount, trailerAmount, sortOf, fieldsOf}
+use Rattle.records.specs.Fields.{Bytes, byteIn, numberIn, testFields, unlessFault}
 use Rattle.zengin.specs.declared.order.Order.{Order}
 use Rattle.zengin.specs.declared.order.Order.the-variants.{Start, InGroup, AfterTrailer, Ended}
 use Rattle.zengin.specs.declared.totals.Totals.{Totals}
@@ -47,13 +47,13 @@ hasEnded Ended = true
 
 -- the amount of a data record, and the count and amount that a trailer states
 abbrev pub amountOf : Bytes → ℕ
-amountOf x = number x 81 10
+amountOf x = numberIn x dataAmount
 
 abbrev pub countStated : Bytes → ℕ
-countStated x = number x 2 6
+countStated x = numberIn x trailerCount
 
 abbrev pub amountStated : Bytes → ℕ
-amountStated x = number x 8 12
+amountStated x = numberIn x trailerAmount
 
 abbrev pub totals : ℕ → ℕ → Totals
 totals n sum = record { count = n; amount = sum }

@@ -87,6 +87,7 @@ pub fn summary(file: &[u8]) -> Result<Figures, Denial>
     ensures passes { λ r. ⌜ ((figures : Figures) → r ≡ Ok figures → Lawful-asking (now (file .entry)) figures) ⌝ }
     ensures lawful { λ r. ⌜ ((figures : Figures) → Lawful-asking (now (file .entry)) figures → r ≡ Ok figures) ⌝ }
     ensures first { λ r. ⌜ ((denial : Denial) → r ≡ Err denial → Names-first (now (file .entry)) denial) ⌝ }
+    ensures named { λ r. ⌜ ((denial : Denial) → Names-first (now (file .entry)) denial → r ≡ Err denial) ⌝ }
 {
     figures_of(file)
 }
@@ -97,6 +98,7 @@ pub fn check(file: &[u8]) -> Result<(), Denial>
     ensures passes { λ r. ⌜ (r ≡ Ok tt → Lawful (now (file .entry))) ⌝ }
     ensures lawful { λ r. ⌜ (Lawful (now (file .entry)) → r ≡ Ok tt) ⌝ }
     ensures first { λ r. ⌜ ((denial : Denial) → r ≡ Err denial → Names-first (now (file .entry)) denial) ⌝ }
+    ensures named { λ r. ⌜ ((denial : Denial) → Names-first (now (file .entry)) denial → r ≡ Err denial) ⌝ }
     ensures placed { λ r. ⌜ ((denial : Denial) → r ≡ Err denial → Placed denial) ⌝ }
 {
     without_figures(summary(file))

@@ -4,8 +4,8 @@ ghost use Prim.Native.Nat.{ℕ, _+_, _*_, _^_, _≤_, _<_};
 ghost use lib.ListN.{length};
 ghost use Rattle.std.specs.declared.option.Option.the-variants.{Some};
 ghost use Rattle.std.specs.Options.{Cases as BySome};
-ghost use Rattle.zengin.specs.Groups.{totalsStated, headStated, groupClosedBy, groupAsking};
-ghost use Rattle.zengin.specs.Lawful.{Group as Group-at};
+ghost use Rattle.zengin.specs.Groups.{totalsStated, headStated, groupClosedBy, groupAsking, Closes};
+ghost use Rattle.zengin.specs.Lawful.{Group as Group-at, Lawful};
 use crate::shown::numbered_record;
 use crate::totals::Totals;
 use crate::totals::TotalsDebug;
@@ -76,10 +76,12 @@ fn closed_group(file: &[u8], trailer: usize) -> Option<Group>
     })
 }
 
-/// The group that the record of that number closes, counted from 1; none where it closes none.
+/// What is asked for by the group that the record of that number closes, counted from 1. Of other files than lawful ones it tells what
+/// the trailer states, if a header stands as many records before it as it states.
 pub fn group_closed_by(file: &[u8], trailer: usize) -> Option<Group>
     ensures answer { λ r. ⌜ r ≡ groupClosedBy (now (file .entry)) trailer ⌝ }
     ensures asks { λ r. ⌜ ((s n : ℕ) → Group-at (now (file .entry)) s n → trailer ≡ s + 1 + n + 1 → trailer * 120 ≤ length (now (file .entry)) → r ≡ Some (groupAsking (now (file .entry)) s n)) ⌝ }
+    ensures only { λ r. ⌜ ((group : Group) → Lawful (now (file .entry)) → r ≡ Some group → Closes (now (file .entry)) trailer group) ⌝ }
 {
     closed_group(file, trailer)
 }

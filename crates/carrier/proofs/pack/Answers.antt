@@ -1,19 +1,18 @@
-use borrow.Author.Needs.{needs}
-use mathlib.Core.Path.{_≡_}
-use Prim.Native.Nat.{_*_, _/_}
-use lib.ListN.{length}
-use Rattle.std.specs.declared.result.Result.the-variants.{Ok}
-use Rattle.carrier.specs.Carrier.{packAnswer, packBuffer}
-use Rattle.carrier.proofs.Restored.{lawful-restores, plain-restores}
+use Rattle.carrier.proofs.Restored.{lawful-packs, lawful-restores, plain-restores}
 use Rattle.carrier.proofs.pack.Needs as need
 
 pub returns : need.returns
 returns c =
-    let told : Ok (length (c .args .bare .now) / 120 * 122) ≡ packAnswer (c .args .bare .now) (length (c .args .out .now)) = search needs in
-    let left : c .put-lines .last .out ≡ packBuffer (c .args .bare .now) (c .args .out .now) = search needs in
+    let b = c .args .bare .now in
+    let old = c .args .out .now in
+    let new = c .pack-records .last .out in
+    let r = c .pack-records .result in
+    let told = c .pack-records .ensures .answer in
+    let left = c .pack-records .ensures .buffer in
     record {
       answer = told;
       buffer = left;
-      restores = lawful-restores (c .args .bare .now) (c .args .out .now) (c .put-lines .last .out) _ told left;
-      restores-plain = plain-restores (c .args .bare .now) (c .args .out .now) (c .put-lines .last .out) _ told left;
+      packs = lawful-packs b old r told;
+      restores = lawful-restores b old new r told left;
+      restores-plain = plain-restores b old new r told left;
     }

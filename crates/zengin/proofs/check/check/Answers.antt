@@ -1,6 +1,7 @@
 use mathlib.Core.Path.{ap, _∙_}
 use Rattle.zengin.specs.Judged.{passed}
 use Rattle.zengin.proofs.Judging.{check-passes, check-lawful, check-first, placed}
+use Rattle.zengin.proofs.Naming.{first-named}
 use Rattle.zengin.proofs.check.check.Needs as need
 
 pub returns : need.returns
@@ -11,4 +12,4 @@ returns c =
     let r = c .without-figures .result in
     let e = c .without-figures .ensures in
     let first = check-first b s is r e in
-    record { answer = e ∙ ap passed is; passes = check-passes b s is r e; lawful = check-lawful b s is r e; first = first; placed = λ d p. placed b d (first d p) }
+    record { answer = e ∙ ap passed is; passes = check-passes b s is r e; lawful = check-lawful b s is r e; first = first; named = λ d n. e ∙ ap passed (first-named b s is d n); placed = λ d p. placed b d (first d p) }
