@@ -2,7 +2,7 @@
 use mathlib.Core.Path.{_≡_}
 use mathlib.Core.Bool.{Bool, false, cond, not, _&&_, _||_}
 use mathlib.Core.List.{[], _∷_, _++_}
-use Prim.Native.Nat.{ℕ, _-_, _*_, _/_, _≤_}
+use Prim.Native.Nat.{ℕ, _+_, _-_, _*_, _/_, _≤_}
 use lib.Dec.{eqb, ltb}
 use lib.ListN.{length, getD, take, drop}
 use Rattle.std.specs.shelf.Lists.{All, joined, kept-by}
@@ -12,6 +12,7 @@ use Rattle.std.specs.declared.result.Result.{Result}
 use Rattle.std.specs.declared.result.Result.the-variants.{Ok, Err}
 use Rattle.denials.specs.declared.Denial.{Denial}
 use Rattle.denials.specs.declared.Denial.the-variants.{ShortBuffer}
+use Rattle.records.specs.Layouts.{recordBytes}
 use Rattle.records.specs.Fields.{Bytes}
 use Rattle.zengin.specs.Files.{lengthDenial, recordsOf}
 
@@ -38,6 +39,10 @@ lineEnd = 13 ∷ 10 ∷ []
 -- a record and its line end
 abbrev pub line : Bytes → Bytes
 line one = one ++ lineEnd
+
+-- the length of a line
+abbrev pub lineBytes : ℕ
+lineBytes = recordBytes + 2
 
 -- each record of a bare file as a line
 abbrev pub packed : Bytes → Bytes
@@ -69,9 +74,9 @@ unpackAnswer raw places = unlessDenied (lengthDenial (length (bare raw))) (lengt
 abbrev pub unpackBuffer : Bytes → Bytes → Bytes
 unpackBuffer raw out = bufferAfter (unpackAnswer raw (length out)) (bare raw) out
 
--- the answer to packing a bare file into a buffer of that many places: 122 bytes for each record
+-- the answer to packing a bare file into a buffer of that many places: a line for each record
 abbrev pub packAnswer : Bytes → ℕ → Result ℕ Denial
-packAnswer b places = unlessDenied (lengthDenial (length b)) (length b / 120 * 122) places
+packAnswer b places = unlessDenied (lengthDenial (length b)) (length b / recordBytes * lineBytes) places
 
 -- the buffer after packing a bare file into it
 abbrev pub packBuffer : Bytes → Bytes → Bytes

@@ -4,8 +4,9 @@ ghost use Prim.Native.Nat.{_+_, _*_, _/_, _≤_};
 ghost use lib.ListN.{length};
 ghost use Rattle.std.specs.shelf.Lists.{kept-by};
 ghost use Rattle.std.specs.declared.result.Result.the-variants.{Ok};
+ghost use Rattle.records.specs.Layouts.{recordBytes};
 ghost use Rattle.zengin.specs.Lawful.{Lawful};
-ghost use Rattle.carrier.specs.Carrier.{isLineEnd, isKept, body as bodyOf, lineEnd, packed, over, put, unpackAnswer, unpackBuffer, packAnswer, packBuffer, Plain, Restores};
+ghost use Rattle.carrier.specs.Carrier.{lineBytes, isLineEnd, isKept, body as bodyOf, lineEnd, packed, over, put, unpackAnswer, unpackBuffer, packAnswer, packBuffer, Plain, Restores};
 use denials::Denial;
 use records::layouts::RECORD_BYTES;
 use zengin::lengths::length_denial;
@@ -122,7 +123,7 @@ fn pack_records(bare: &[u8], out: &mut [u8]) -> Result<usize, Denial>
 pub fn pack(bare: &[u8], out: &mut [u8]) -> Result<usize, Denial>
     ensures answer { λ r. ⌜ r ≡ packAnswer (now (bare .entry)) (length (now (out .entry))) ⌝ }
     ensures buffer { λ _. ⌜ now (out .exit) ≡ packBuffer (now (bare .entry)) (now (out .entry)) ⌝ }
-    ensures packs { λ r. ⌜ (Lawful (now (bare .entry)) → length (now (bare .entry)) / 120 * 122 ≤ length (now (out .entry)) → r ≡ Ok (length (now (bare .entry)) / 120 * 122)) ⌝ }
+    ensures packs { λ r. ⌜ (Lawful (now (bare .entry)) → length (now (bare .entry)) / recordBytes * lineBytes ≤ length (now (out .entry)) → r ≡ Ok (length (now (bare .entry)) / recordBytes * lineBytes)) ⌝ }
     ensures restores { λ r. ⌜ (Lawful (now (bare .entry)) → Restores (now (bare .entry)) r (now (out .exit))) ⌝ }
     ensures restores_plain { λ r. ⌜ (Plain (now (bare .entry)) → Restores (now (bare .entry)) r (now (out .exit))) ⌝ }
 {

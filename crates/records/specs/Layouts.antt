@@ -14,6 +14,10 @@ use Rattle.records.specs.declared.layouts.Rule.{Rule}
 use Rattle.records.specs.declared.layouts.Rule.the-variants.{Any, Is, AtMost, NotZero, Date, BillerDeposit, PayerDeposit}
 use Rattle.records.specs.declared.layouts.Field.{Field}
 
+-- the length of a record
+abbrev pub recordBytes : ℕ
+recordBytes = 120
+
 -- the sort that a record's first byte tells: 1, 2, 8 or 9 in digits
 abbrev pub sortOf : ℕ → Option Sort
 sortOf x = cond (eqb x 49) (Some Header) (cond (eqb x 50) (Some Data) (cond (eqb x 56) (Some Trailer) (cond (eqb x 57) (Some End) None)))
@@ -148,7 +152,7 @@ numbered k n = numberedIn (fieldsOf k) n
 pub record Inside (f : Field) : Type 0 where
   pub begins : 1 ≤ first f
   pub goes : first f ≤ last f
-  pub ends : last f ≤ 120
+  pub ends : last f ≤ recordBytes
 
 abbrev pub covers : Field → ℕ → Bool
 covers f col = leb (first f) col && leb col (last f)
@@ -158,7 +162,7 @@ abbrev pub coveredBy : ℕ → ℕ → List Field → Option ℕ
 coveredBy col n [] = None
 coveredBy col n (f ∷ fs) = cond (covers f col) (Some n) (coveredBy col (n + 1) fs)
 
--- each field begins right after the one before, from that column on, and the last one ends at column 120
+-- each field begins right after the one before, from that column on, and the last one ends at the last column
 abbrev pub tiles : ℕ → List Field → Bool
-tiles from [] = eqb from 121
+tiles from [] = eqb from (recordBytes + 1)
 tiles from (f ∷ fs) = eqb (first f) from && tiles (last f + 1) fs

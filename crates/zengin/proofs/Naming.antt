@@ -1,33 +1,29 @@
 -- A file with a first offence is denied for just that: the walk comes to its record, and the test there fails.
 use mathlib.Core.Path.{_≡_, refl, sym, ap, subst, _∙_}
-use mathlib.Core.Bool.{true, false, cond}
 use mathlib.Core.Logic.{_⊎_}
 use Prim.Native.Nat.{ℕ, suc, zero, _+_, _-_, _*_, _/_, _%_, _≤_, _<_}
 use native.Mathlib.Omega.{arith}
-use lib.Dec.{eqb, ltb}
 use lib.ListN.{length}
 use Rattle.std.proofs.shelf.Tests.{cond-true, cond-false, eq-eqb, ne-eqb}
 use Rattle.std.proofs.shelf.Ways.{tells}
 use Rattle.std.specs.declared.option.Option.the-variants.{Some, None}
 use Rattle.std.specs.declared.result.Result.{Result}
-use Rattle.std.specs.declared.result.Result.the-variants.{Ok, Err}
+use Rattle.std.specs.declared.result.Result.the-variants.{Err}
 use Rattle.denials.specs.declared.Denial.{Denial}
 use Rattle.denials.specs.declared.Denial.the-variants.{BareLength, TooManyRecords, Faulty, ShortBuffer}
 use Rattle.denials.specs.declared.Fault.{Fault}
-use Rattle.denials.specs.declared.Fault.the-variants.{OutOfOrder, WrongCount, WrongAmount}
+use Rattle.denials.specs.declared.Fault.the-variants.{WrongCount, WrongAmount}
 use Rattle.denials.specs.declared.RecordFault.{RecordFault}
 use Rattle.records.specs.declared.layouts.Sort.the-variants.{Header, Trailer, End}
 use Rattle.records.specs.Fields.{Bytes}
 use Rattle.records.proofs.Kept.{fields-if-kept, fields-if-fault}
-use Rattle.zengin.specs.declared.order.Order.{Order}
-use Rattle.zengin.specs.declared.order.Order.the-variants.{Start, InGroup, AfterTrailer, Ended}
-use Rattle.zengin.specs.declared.totals.Totals.{Totals}
+use Rattle.zengin.specs.declared.order.Order.the-variants.{InGroup, AfterTrailer, Ended}
 use Rattle.zengin.specs.declared.totals.Figures.{Figures}
 use Rattle.zengin.specs.declared.totals.Tally.{Tally}
 use Rattle.zengin.specs.Files.{lengthDenial, recordAt}
-use Rattle.zengin.specs.Judged.{hasEnded, countStated, amountStated, totals, stated, tally, tallied, faultAt, walk, atStart, walkIfFine, summed}
+use Rattle.zengin.specs.Judged.{countStated, amountStated, totals, tally, faultAt, walk, atStart, walkIfFine, summed}
 use Rattle.zengin.specs.Lawful.{amounts}
-use Rattle.zengin.specs.Offences.{Place, at-start, in-group, after-trailer, at-end, orderAt, Whole-groups, Begun, Offence, missing, of-no-sort, out-of-place, in-field, wrong-count, wrong-amount, First-offence, Right-length, Names-first}
+use Rattle.zengin.specs.Offences.{Place, at-start, in-group, after-trailer, at-end, orderAt, Whole-groups, Begun, Offence, missing, of-no-sort, out-of-place, in-field, wrong-count, wrong-amount, First-offence, Names-first}
 use Rattle.zengin.proofs.Passing.{orderAfter, header-follows, end-follows, past, inside, Came, came}
 use Rattle.zengin.proofs.Walks.{unknown, not-here, at-field, at-totals, not-ended}
 use Rattle.zengin.proofs.Walks.{at-end as walk-ends}

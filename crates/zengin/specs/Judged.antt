@@ -14,7 +14,7 @@ use Rattle.denials.specs.declared.Fault.the-variants.{OutOfOrder, WrongCount, W
 use Rattle.denials.specs.Denials.{told}
 use Rattle.records.specs.declared.layouts.Sort.{Sort}
 use Rattle.records.specs.declared.layouts.Sort.the-variants.{Header, Data, Trailer, End}
-use Rattle.records.specs.Layouts.{dataAmount, trailerCount, trailerAmount, sortOf, fieldsOf}
+use Rattle.records.specs.Layouts.{recordBytes, dataAmount, trailerCount, trailerAmount, sortOf, fieldsOf}
 use Rattle.records.specs.Fields.{Bytes, byteIn, numberIn, testFields, unlessFault}
 use Rattle.zengin.specs.declared.order.Order.{Order}
 use Rattle.zengin.specs.declared.order.Order.the-variants.{Start, InGroup, AfterTrailer, Ended}
@@ -132,7 +132,7 @@ atStart = (Start, tally 0 (totals 0 0) (totals 0 0))
 
 abbrev pub walkIfFine : Bytes → Option Denial → Result Figures Denial
 walkIfFine b (Some d) = Err d
-walkIfFine b None = walk b 0 (length b / 120) atStart
+walkIfFine b None = walk b 0 (length b / recordBytes) atStart
 
 -- what a file asks for, or its denial
 abbrev pub summed : Bytes → Result Figures Denial

@@ -4,10 +4,11 @@ use mathlib.Core.Path.{_≡_}
 use Prim.Native.Nat.{ℕ, suc, zero, _+_, _*_, _≤_, _<_}
 use lib.ListN.{length}
 use Rattle.records.specs.declared.layouts.Sort.the-variants.{Header, Data, Trailer, End}
+use Rattle.records.specs.Layouts.{recordBytes}
 use Rattle.records.specs.Fields.{Bytes}
 use Rattle.records.specs.Kept.{Is-a}
 use Rattle.zengin.specs.declared.totals.Figures.{Figures}
-use Rattle.zengin.specs.Files.{recordAt}
+use Rattle.zengin.specs.Files.{leastRecords, mostRecords, recordAt}
 use Rattle.zengin.specs.Judged.{amountOf, countStated, amountStated}
 
 -- the sum of the amounts of n data records from record r on
@@ -38,9 +39,9 @@ pub data Groups (b : Bytes) : ℕ → ℕ → ℕ → ℕ → Type 0 where
 -- groups, at least one, and then the end record, which is the last of 3 to 10,000 records; the file asks for the sums over its groups
 pub record Lawful-asking (b : Bytes) (figures : Figures) : Type 0 where
   pub end : ℕ
-  pub whole : length b ≡ (end + 1) * 120
-  pub least : 3 ≤ end + 1
-  pub most : end + 1 ≤ 10000
+  pub whole : length b ≡ (end + 1) * recordBytes
+  pub least : leastRecords ≤ end + 1
+  pub most : end + 1 ≤ mostRecords
   pub some : 1 ≤ figures .groups
   pub groups : Groups b (figures .groups) (figures .requested .count) (figures .requested .amount) end
   pub ended : Is-a End (recordAt b end)

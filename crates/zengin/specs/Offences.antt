@@ -13,12 +13,12 @@ use Rattle.denials.specs.declared.RecordFault.{RecordFault}
 use Rattle.denials.specs.Denials.{told}
 use Rattle.records.specs.declared.layouts.Sort.{Sort}
 use Rattle.records.specs.declared.layouts.Sort.the-variants.{Trailer, End}
-use Rattle.records.specs.Layouts.{sortOf}
+use Rattle.records.specs.Layouts.{recordBytes, sortOf}
 use Rattle.records.specs.Fields.{Bytes, byteIn}
 use Rattle.records.specs.Kept.{Is-a, First-field-fault}
 use Rattle.zengin.specs.declared.order.Order.{Order}
 use Rattle.zengin.specs.declared.order.Order.the-variants.{Start, InGroup, AfterTrailer, Ended}
-use Rattle.zengin.specs.Files.{recordAt}
+use Rattle.zengin.specs.Files.{leastRecords, mostRecords, recordAt}
 use Rattle.zengin.specs.Judged.{nextOrder, countStated, amountStated}
 use Rattle.zengin.specs.Lawful.{amounts, Opened, Groups}
 
@@ -68,7 +68,7 @@ Begun b r at-end = Ended-before b r
 
 -- record r is there, and its sort may come here
 pub record Admitted (b : Bytes) (r : ℕ) (p : Place) (k : Sort) : Type 0 where
-  pub there : r * 120 < length b
+  pub there : r * recordBytes < length b
   pub sort : sortOf (byteIn (recordAt b r) 1) ≡ Some k
   pub next : Order
   pub follows : nextOrder (orderAt p) k ≡ Some next
@@ -76,18 +76,18 @@ pub record Admitted (b : Bytes) (r : ℕ) (p : Place) (k : Sort) : Type 0 where
 -- the first test that record r fails, after a beginning that stands at p
 pub data Offence (b : Bytes) (r : ℕ) (p : Place) : Fault → Type 0 where
   -- the file ends before its end record
-  missing : r * 120 ≡ length b → (orderAt p ≡ Ended → ⊥) → Offence b r p OutOfOrder
+  missing : r * recordBytes ≡ length b → (orderAt p ≡ Ended → ⊥) → Offence b r p OutOfOrder
   -- its first byte is of no sort
-  of-no-sort : r * 120 < length b → sortOf (byteIn (recordAt b r) 1) ≡ None → Offence b r p OutOfOrder
+  of-no-sort : r * recordBytes < length b → sortOf (byteIn (recordAt b r) 1) ≡ None → Offence b r p OutOfOrder
   -- its sort may not come here
-  out-of-place : r * 120 < length b → (k : Sort) → sortOf (byteIn (recordAt b r) 1) ≡ Some k → nextOrder (orderAt p) k ≡ None → Offence b r p OutOfOrder
+  out-of-place : r * recordBytes < length b → (k : Sort) → sortOf (byteIn (recordAt b r) 1) ≡ Some k → nextOrder (orderAt p) k ≡ None → Offence b r p OutOfOrder
   -- one of its fields is at fault, and the fields and columns before it are right
   in-field : {fault : Fault} (k : Sort) → Admitted b r p k → First-field-fault k (recordAt b r) fault → Offence b r p fault
   -- a trailer whose fields are right states another count than its group's
-  wrong-count : (s n : ℕ) → p ≡ in-group s n → r * 120 < length b → Is-a Trailer (recordAt b r)
+  wrong-count : (s n : ℕ) → p ≡ in-group s n → r * recordBytes < length b → Is-a Trailer (recordAt b r)
       → (countStated (recordAt b r) ≡ n → ⊥) → Offence b r p WrongCount
   -- it states the right count, and another amount than its group's
-  wrong-amount : (s n : ℕ) → p ≡ in-group s n → r * 120 < length b → Is-a Trailer (recordAt b r)
+  wrong-amount : (s n : ℕ) → p ≡ in-group s n → r * recordBytes < length b → Is-a Trailer (recordAt b r)
       → countStated (recordAt b r) ≡ n → (amountStated (recordAt b r) ≡ amounts b (s + 1) n → ⊥) → Offence b r p WrongAmount
 
 -- a fault is the first of its file; its record is counted from 1
@@ -100,18 +100,18 @@ pub record First-offence (b : Bytes) (f : RecordFault) : Type 0 where
 
 -- the length of a file that has 3 to 10,000 whole records
 pub record Right-length (b : Bytes) : Type 0 where
-  pub least : 360 ≤ length b
-  pub most : length b ≤ 1200000
-  pub whole : length b % 120 ≡ 0
+  pub least : leastRecords * recordBytes ≤ length b
+  pub most : length b ≤ mostRecords * recordBytes
+  pub whole : length b % recordBytes ≡ 0
 
 -- a denial names the first offence: the length comes before all records
 abbrev pub Names-first : Bytes → Denial → Type 0
-Names-first b BareLength = (length b < 360) ⊎ (length b % 120 ≡ 0 → ⊥)
-Names-first b TooManyRecords = (length b % 120 ≡ 0) × (1200000 < length b)
+Names-first b BareLength = (length b < leastRecords * recordBytes) ⊎ (length b % recordBytes ≡ 0 → ⊥)
+Names-first b TooManyRecords = (length b % recordBytes ≡ 0) × (mostRecords * recordBytes < length b)
 Names-first b (Faulty f) = Right-length b × First-offence b f
 Names-first b ShortBuffer = ⊥
 
 -- the place of a denial is a record of the largest file or one past it, and a column of a record
 pub record Placed (d : Denial) : Type 0 where
-  pub by-record : told d .«record» ≤ 10001
-  pub by-column : told d .column ≤ 120
+  pub by-record : told d .«record» ≤ mostRecords + 1
+  pub by-column : told d .column ≤ recordBytes
