@@ -3,8 +3,8 @@
 
 # Proves and builds what is needed, then inspects a lawful file and a refused one.
 demo: target/bin/inspect
-	@echo "A request file of two billers:"
-	@cd samples/two-billers && ../../target/bin/inspect
+	@echo "A request file of three billers:"
+	@cd samples/three-billers && ../../target/bin/inspect
 	@echo
 	@echo "The same kind of file with a trailer whose amount is one yen too high:"
 	@cd samples/gas-wrong-amount && ../../target/bin/inspect

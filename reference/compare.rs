@@ -86,7 +86,7 @@ fn compare(settings: &Settings) -> Result<(), String> {
         whole.add(&tally);
     }
     println!(
-        "carrier: {} raw forms gave back their bare file",
+        "the reference's own carrier: {} raw forms gave back their bare file",
         grouped(whole.raw_forms)
     );
     faults.extend(unseen_denials(&whole));

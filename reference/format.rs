@@ -1,5 +1,5 @@
 // The request file as docs/FORMAT.md tells it, written a second time: carrier, layouts, order and check.
-// It shares no line with the engine, so that a slip in one of the two shows as a disagreement.
+// It was written from docs/ without the engine's code, so that a slip in one of the two shows as a disagreement.
 
 /// Bytes in one record.
 pub const RECORD_LENGTH: usize = 120;

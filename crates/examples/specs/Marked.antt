@@ -78,12 +78,13 @@ marked =
     is (gas (with header 96 (codes "3")) data1 trailer) (denied 15 Record 1 96) ∷
     []
 
--- a file has an answer by the rules: it is lawful, or it has a first offence, whose denial tells just that
+-- the file has a first offence, whose denial tells just that
 pub record Denied-for (b : Bytes) (n : ℕ) (layer : Layer) (r col : ℕ) : Type 0 where
   pub denial : Denial
   pub first : Names-first b denial
   pub tells-so : told denial ≡ tells n layer r col
 
+-- a file has an answer by the rules
 abbrev pub Answered : Bytes → Answer → Type 0
 Answered b lawful = Lawful b
 Answered b (denied n layer r col) = Denied-for b n layer r col

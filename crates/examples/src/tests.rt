@@ -1,4 +1,6 @@
 // Files too long to compute by the rules are run: the largest amounts, and the largest files.
+use carrier::pack;
+use carrier::unpack;
 use denials::Denial;
 use denials::DenialDebug;
 use denials::DenialPartialEq;
@@ -83,4 +85,34 @@ fn a_missing_record_stands_one_past_the_last(rt: LibcRuntime) -> Result<(), Fail
     let mut file = one_group(rt.alloc(), 9998, b"0000000001", b"009998000000009998")?;
     file.truncate(1200000);
     check_eq(judge(file.as_slice()), refused_at(10001, Fault::OutOfOrder))
+}
+
+#[test]
+fn a_packed_file_unpacks_to_itself(rt: LibcRuntime) -> Result<(), Fail> {
+    let file = one_group(rt.alloc(), 1, b"0000001500", b"000001000000001500")?;
+    let mut packed = vec![in rt.alloc(); 7u8; 490]?;
+    check_eq(pack(file.as_slice(), packed.as_mut_slice()), Ok(488))?;
+    check(packed.as_slice().starts_with(HEADER))?;
+    check(packed.as_slice().ends_with(b"\r\n\x07\x07"))?;
+    let mut bare = vec![in rt.alloc(); 7u8; 481]?;
+    packed.truncate(488);
+    check_eq(unpack(packed.as_slice(), bare.as_mut_slice()), Ok(480))?;
+    check(bare.as_slice().starts_with(file.as_slice()))?;
+    check(bare.as_slice().ends_with(b" \x07"))
+}
+
+#[test]
+fn a_short_buffer_is_denied_and_left_alone(rt: LibcRuntime) -> Result<(), Fail> {
+    let file = one_group(rt.alloc(), 1, b"0000001500", b"000001000000001500")?;
+    let mut short = vec![in rt.alloc(); 7u8; 487]?;
+    check_eq(
+        pack(file.as_slice(), short.as_mut_slice()),
+        Err(Denial::ShortBuffer),
+    )?;
+    short.truncate(479);
+    check_eq(
+        unpack(file.as_slice(), short.as_mut_slice()),
+        Err(Denial::ShortBuffer),
+    )?;
+    check(short.as_slice().starts_with(b"\x07\x07"))
 }

@@ -4,7 +4,6 @@ use crate::names::sort_name;
 use denials::Denial;
 use denials::Fault;
 use denials::RecordFault;
-use records::layouts::Sort;
 use records::layouts::field_covering;
 use records::layouts::sort_of;
 use std::io;
@@ -18,19 +17,21 @@ pub fn print_refusal(rt: &LibcRuntime, file: &[u8], denial: Denial) -> io::Resul
     let column = told.column;
     println!(rt, "REFUSED {number} {record} {column}")?;
     match denial {
-        Denial::BareLength => println!(
-            rt,
-            "Without line ends, the file is not made of at least 3 whole records of 120 bytes."
-        ),
+        Denial::BareLength => {
+            println!(
+                rt,
+                "Without line ends, the file is not made of at least 3 whole records of 120 bytes."
+            )
+        }
         Denial::TooManyRecords => println!(rt, "The file has more than 10,000 records."),
         Denial::ShortBuffer => println!(rt, "There is no room for the file's records."),
-        Denial::Faulty(fault) => print_fault(rt, file, fault),
+        Denial::Faulty(fault) => print_fault(rt, file, fault, column),
     }
 }
 
 // What is wrong in a record of the file, by the record's own sort.
-fn print_fault(rt: &LibcRuntime, file: &[u8], fault: RecordFault) -> io::Result<()> {
-    let record = fault.record;
+fn print_fault(rt: &LibcRuntime, file: &[u8], at: RecordFault, column: usize) -> io::Result<()> {
+    let record = at.record;
     let Some(bytes) = numbered_record(file, record) else {
         return println!(
             rt,
@@ -45,35 +46,22 @@ fn print_fault(rt: &LibcRuntime, file: &[u8], fault: RecordFault) -> io::Result<
         );
     };
     let name = sort_name(sort);
-    match fault.fault {
-        Fault::OutOfOrder => println!(rt, "Record {record} is {name}, which may not come here."),
-        Fault::WrongByte { column } => {
-            print_place(rt, record, sort, column)?;
-            print_byte(rt, bytes, column)
-        }
-        Fault::WrongValue { column } => {
-            print_place(rt, record, sort, column)?;
-            print_value(rt, file, record, sort, column)
-        }
-        Fault::WrongCount => {
-            print_place(rt, record, sort, 2)?;
-            println!(rt, "it is not the number of data records in its group.")
-        }
-        Fault::WrongAmount => {
-            print_place(rt, record, sort, 8)?;
-            println!(rt, "it is not the sum of the amounts in its group.")
-        }
+    if let Fault::OutOfOrder = at.fault {
+        return println!(rt, "Record {record} is {name}, which may not come here.");
     }
-}
-
-fn print_place(rt: &LibcRuntime, record: usize, sort: Sort, column: usize) -> io::Result<()> {
-    let name = sort_name(sort);
     let number = field_covering(sort, column).unwrap_or(0);
     let field = field_name(sort, number);
     print!(
         rt,
         "Record {record} is {name}; its field {number}, {field}, is wrong in column {column}: "
-    )
+    )?;
+    match at.fault {
+        Fault::OutOfOrder => println!(rt, "the record may not come here."),
+        Fault::WrongByte { column: _ } => print_byte(rt, bytes, column),
+        Fault::WrongValue { column: _ } => print_value(rt, file, record, number),
+        Fault::WrongCount => println!(rt, "it is not the number of data records in its group."),
+        Fault::WrongAmount => println!(rt, "it is not the sum of the amounts in its group."),
+    }
 }
 
 fn print_byte(rt: &LibcRuntime, record: &[u8; 120], column: usize) -> io::Result<()> {
@@ -83,14 +71,7 @@ fn print_byte(rt: &LibcRuntime, record: &[u8; 120], column: usize) -> io::Result
     }
 }
 
-fn print_value(
-    rt: &LibcRuntime,
-    file: &[u8],
-    record: usize,
-    sort: Sort,
-    column: usize,
-) -> io::Result<()> {
-    let number = field_covering(sort, column).unwrap_or(0);
+fn print_value(rt: &LibcRuntime, file: &[u8], record: usize, number: usize) -> io::Result<()> {
     match shown_field(file, record, number) {
         Some(shown) => {
             rt.write_all(shown.bytes)?;

@@ -10,7 +10,7 @@ use crate::lengths::length_denial;
 use crate::lengths::records_of;
 use crate::order::Order;
 use crate::totals::Figures;
-use crate::totals::NONE;
+use crate::totals::NO_TOTALS;
 use crate::totals::Tally;
 use denials::Denial;
 use denials::Fault;
@@ -40,9 +40,9 @@ fn walk(file: &[u8]) -> Result<Figures, Denial>
     let mut tally = Tally {
         file: Figures {
             groups: 0,
-            requested: NONE,
+            requested: NO_TOTALS,
         },
-        group: NONE,
+        group: NO_TOTALS,
     };
     'file: {
         for (index, record) in records.iter().enumerate() {
@@ -52,7 +52,7 @@ fn walk(file: &[u8]) -> Result<Figures, Denial>
             if !order.admit(sort) {
                 break 'file Err(fault_at(index, Fault::OutOfOrder));
             }
-            let mut stated = NONE;
+            let mut stated = NO_TOTALS;
             for number in 1..layout(sort).len() + 1 {
                 match read_field(record, sort, number) {
                     Ok(value) => stated.note(sort, number, value),

@@ -3,6 +3,7 @@ ghost use mathlib.Core.Path.{_≡_};
 ghost use Rattle.std.specs.Options.{mapped};
 ghost use Rattle.zengin.specs.Shown.{recordNumbered, fieldShown};
 use crate::lengths::records_of;
+use records::layouts::Field;
 use records::layouts::RECORD_BYTES;
 use records::layouts::numbered_field;
 use records::layouts::sort_of;
@@ -35,12 +36,12 @@ pub fn shown_field(file: &[u8], record: usize, number: usize) -> Option<Shown<'_
     }
     let start = (record - 1) * RECORD_BYTES;
     let sort = sort_of(file[start])?;
-    let field = numbered_field(sort, number)?;
-    let from = start + (field.0 - 1);
-    let to = start + field.1;
+    let Field(first, last, _, _) = numbered_field(sort, number)?;
+    let from = start + (first - 1);
+    let to = start + last;
     Some(Shown {
         bytes: &file[from..to],
         record,
-        column: field.0,
+        column: first,
     })
 }

@@ -29,7 +29,7 @@ pub(crate) struct Tally {
     pub group: Totals,
 }
 
-pub(crate) const NONE: Totals = Totals {
+pub(crate) const NO_TOTALS: Totals = Totals {
     count: 0,
     amount: 0,
 };
@@ -72,7 +72,7 @@ impl Tally {
                     groups: file.groups + 1,
                     requested: file.requested,
                 },
-                group: NONE,
+                group: NO_TOTALS,
             }),
             Sort::Data => Ok(Tally {
                 file: Figures {
