@@ -9,6 +9,8 @@ pub enum Layer {
     Order,
     Record,
     Totals,
+    Number,
+    Register,
 }
 
 /// What is wrong in a record. Columns count from 1.
@@ -44,6 +46,14 @@ pub enum Denial {
     Faulty(RecordFault),
     /// The output buffer is too short.
     ShortBuffer,
+    /// A number is outside its width, or a claim's amount is 0.
+    OutsideWidth,
+    /// The register holds as many rows as it may.
+    RegisterFull,
+    /// The row to be listed is there already.
+    AlreadyListed,
+    /// The row to be struck off is not there.
+    NotListed,
 }
 
 /// What a denial tells: its number, its layer and its place, which is 0 and 0 where it has none.
@@ -80,6 +90,10 @@ impl Denial {
             Denial::TooManyRecords => tells(12, Layer::Carrier, 0, 0),
             Denial::Faulty(fault) => fault.told(),
             Denial::ShortBuffer => tells(21, Layer::Carrier, 0, 0),
+            Denial::OutsideWidth => tells(24, Layer::Number, 0, 0),
+            Denial::RegisterFull => tells(31, Layer::Register, 0, 0),
+            Denial::AlreadyListed => tells(32, Layer::Register, 0, 0),
+            Denial::NotListed => tells(33, Layer::Register, 0, 0),
         }
     }
 }

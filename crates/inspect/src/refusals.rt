@@ -24,8 +24,9 @@ pub fn print_refusal(rt: &LibcRuntime, file: &[u8], denial: Denial) -> io::Resul
             )
         }
         Denial::TooManyRecords => println!(rt, "The file has more than 10,000 records."),
-        Denial::ShortBuffer => println!(rt, "There is no room for the file's records."),
         Denial::Faulty(fault) => print_fault(rt, file, fault, column),
+        // What a call on a register or with a claim is denied for; a file never is.
+        _ => println!(rt, "The file cannot be read."),
     }
 }
 

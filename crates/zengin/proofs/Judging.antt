@@ -13,7 +13,7 @@ use Rattle.std.specs.declared.option.Option.the-variants.{Some, None}
 use Rattle.std.specs.declared.result.Result.{Result}
 use Rattle.std.specs.declared.result.Result.the-variants.{Ok, Err}
 use Rattle.denials.specs.declared.Denial.{Denial}
-use Rattle.denials.specs.declared.Denial.the-variants.{BareLength, TooManyRecords, Faulty, ShortBuffer}
+use Rattle.denials.specs.declared.Denial.the-variants.{BareLength, TooManyRecords, Faulty, ShortBuffer, OutsideWidth, RegisterFull, AlreadyListed, NotListed}
 use Rattle.denials.specs.declared.Fault.{Fault}
 use Rattle.denials.specs.declared.Fault.the-variants.{OutOfOrder, WrongByte, WrongValue, WrongCount, WrongAmount}
 use Rattle.denials.specs.Denials.{told, toldAt}
@@ -26,32 +26,25 @@ use Rattle.zengin.specs.declared.totals.Figures.{Figures}
 use Rattle.zengin.specs.Files.{lengthDenial, recordAt}
 use Rattle.zengin.specs.Judged.{totals, tally, walk, atStart, walkIfFine, summed, passed, coded}
 use Rattle.zengin.specs.Lawful.{Lawful-asking, Lawful}
-use Rattle.zengin.specs.Offences.{Place, at-start, Offence, missing, of-no-sort, out-of-place, in-field, wrong-count, wrong-amount, Names-first, Placed}
+use Rattle.zengin.specs.Offences.{Place, at-start, Offence, missing, of-no-sort, out-of-place, in-field, wrong-count, wrong-amount, Names-first, wrong-length, too-many, in-record, Placed}
 use Rattle.zengin.proofs.Outcomes.{Outcome, outcome, Stands}
 use Rattle.zengin.proofs.Passing.{lawful-walks}
 
 -- The length rule.
 
-Length-tells : ℕ → Option Denial → Type 0
-Length-tells n None = (360 ≤ n) × (n % 120 ≡ 0) × (n ≤ 1200000)
-Length-tells n (Some BareLength) = (n < 360) ⊎ (n % 120 ≡ 0 → ⊥)
-Length-tells n (Some TooManyRecords) = (n % 120 ≡ 0) × (1200000 < n)
-Length-tells n (Some (Faulty f)) = ⊥
-Length-tells n (Some ShortBuffer) = ⊥
+data Length-tells (n : ℕ) : Option Denial → Type 0 where
+  allowed : 360 ≤ n → n % 120 ≡ 0 → n ≤ 1200000 → Length-tells n None
+  short : (n < 360) ⊎ (n % 120 ≡ 0 → ⊥) → Length-tells n (Some BareLength)
+  long : n % 120 ≡ 0 → 1200000 < n → Length-tells n (Some TooManyRecords)
 
 length-tested : (n : ℕ) (p q s : Bool) → ltb n 360 ≡ p → eqb (n % 120) 0 ≡ q → ltb 1200000 n ≡ s → Length-tells n (cond p (Some BareLength) (cond q (cond s (Some TooManyRecords) None) (Some BareLength)))
-unfolding Length-tells
-length-tested n true q s a b c = inl (ltb-true _ _ a)
-length-tested n false true true a b c = (eqb-true _ _ b, ltb-true _ _ c)
-length-tested n false true false a b c = (ltb-false _ _ a, eqb-true _ _ b, ltb-false _ _ c)
-length-tested n false false s a b c = inr (eqb-false _ _ b)
+length-tested n true q s a b c = short (inl (ltb-true _ _ a))
+length-tested n false true true a b c = long (eqb-true _ _ b) (ltb-true _ _ c)
+length-tested n false true false a b c = allowed (ltb-false _ _ a) (eqb-true _ _ b) (ltb-false _ _ c)
+length-tested n false false s a b c = short (inr (eqb-false _ _ b))
 
-length-tells : (n : ℕ) (o : Option Denial) → lengthDenial n ≡ o → Length-tells n o
-length-tells n o e = subst (Length-tells n) e (length-tested n (ltb n 360) (eqb (n % 120) 0) (ltb 1200000 n) refl refl refl)
-
-pub length-fine : (n : ℕ) → lengthDenial n ≡ None → (360 ≤ n) × (n % 120 ≡ 0) × (n ≤ 1200000)
-unfolding Length-tells
-length-fine n e = length-tells n None e
+length-tells : (n : ℕ) → Length-tells n (lengthDenial n)
+length-tells n = length-tested n (ltb n 360) (eqb (n % 120) 0) (ltb 1200000 n) refl refl refl
 
 pub fine-length : (r : ℕ) → 3 ≤ r → r ≤ 10000 → lengthDenial (r * 120) ≡ None
 fine-length r a z = let m : r * 120 % 120 ≡ 0 = omega arith in grind (arith, tells)
@@ -77,20 +70,17 @@ module _ (b : Bytes) where
         groups = done .groups .groups;
         ended = done .ended;
       })
-  by-walk fine (Err d) w = subst (Names-first b) (w .is) (record { least = fine .0; most = fine .2; whole = fine .1 }, w .first)
+  by-walk fine (Err d) w = subst (Names-first b) (w .is) (in-record (record { least = fine .0; most = fine .2; whole = fine .1 }) (w .first))
 
-  by-length : (o : Option Denial) → lengthDenial (length b) ≡ o → Judgement (walkIfFine b o)
-  unfolding Judgement Length-tells Stands
-  by-length (Some BareLength) e = length-tells (length b) (Some BareLength) e
-  by-length (Some TooManyRecords) e = length-tells (length b) (Some TooManyRecords) e
-  by-length (Some (Faulty f)) e = absurd (length-tells (length b) (Some (Faulty f)) e)
-  by-length (Some ShortBuffer) e = absurd (length-tells (length b) (Some ShortBuffer) e)
-  by-length None e =
-      let fine = length-fine (length b) e in
-      by-walk fine (walk b 0 (length b / 120) atStart) (outcome b (length b / 120) 0 at-start (tally 0 (totals 0 0) (totals 0 0)) (omega arith) (fine .1) (refl, refl))
+  by-length : (o : Option Denial) → Length-tells (length b) o → Judgement (walkIfFine b o)
+  unfolding Judgement Stands
+  by-length _ (short wrong) = wrong-length wrong
+  by-length _ (long whole more) = too-many whole more
+  by-length _ (allowed least whole most) =
+      by-walk (least, whole, most) (walk b 0 (length b / 120) atStart) (outcome b (length b / 120) 0 at-start (tally 0 (totals 0 0) (totals 0 0)) (omega arith) whole (refl, refl))
 
   judgement : (r : Result Figures Denial) → r ≡ summed b → Judgement r
-  judgement r e = subst Judgement (sym e) (by-length (lengthDenial (length b)) refl)
+  judgement r e = subst Judgement (sym e) (by-length (lengthDenial (length b)) (length-tells (length b)))
 
   pub passes-lawful : (r : Result Figures Denial) → r ≡ summed b → (figures : Figures) → r ≡ Ok figures → Lawful-asking b figures
   unfolding Judgement
@@ -137,16 +127,14 @@ module _ (b : Bytes) where
   record-is r WrongAmount = refl
 
   pub placed : (d : Denial) → Names-first b d → Placed d
-  placed BareLength n = record { by-record = omega arith; by-column = omega arith }
-  placed TooManyRecords n = record { by-record = omega arith; by-column = omega arith }
-  placed (Faulty f) n =
-      let first = n .1 in
-      let most = index-most (first .index) (first .place) (f .fault) (n .0 .most) (first .offence) in
+  placed _ (wrong-length wrong) = record { by-record = omega arith; by-column = omega arith }
+  placed _ (too-many whole more) = record { by-record = omega arith; by-column = omega arith }
+  placed (Faulty f) (in-record right first) =
+      let most = index-most (first .index) (first .place) (f .fault) (right .most) (first .offence) in
       record {
         by-record = omega (arith, record-is (f .«record») (f .fault), first .number, most);
         by-column = column-most (f .«record») (first .index) (first .place) (f .fault) (first .offence);
       }
-  placed ShortBuffer n = absurd n
 
 -- The check, which tells no figures.
 
@@ -182,6 +170,10 @@ number-some (Faulty f) = fault-some (f .fault)
     fault-some WrongCount = omega arith
     fault-some WrongAmount = omega arith
 number-some ShortBuffer = omega arith
+number-some OutsideWidth = omega arith
+number-some RegisterFull = omega arith
+number-some AlreadyListed = omega arith
+number-some NotListed = omega arith
 
 pub coded-zero : (r : Result (Unit {0}) Denial) → coded r ≡ 0 → r ≡ Ok tt
 coded-zero (Ok done) e = refl

@@ -10,7 +10,7 @@ use Rattle.std.specs.declared.option.Option.the-variants.{Some, None}
 use Rattle.std.specs.declared.result.Result.{Result}
 use Rattle.std.specs.declared.result.Result.the-variants.{Err}
 use Rattle.denials.specs.declared.Denial.{Denial}
-use Rattle.denials.specs.declared.Denial.the-variants.{BareLength, TooManyRecords, Faulty, ShortBuffer}
+use Rattle.denials.specs.declared.Denial.the-variants.{BareLength, TooManyRecords, Faulty}
 use Rattle.denials.specs.declared.Fault.{Fault}
 use Rattle.denials.specs.declared.Fault.the-variants.{WrongCount, WrongAmount}
 use Rattle.denials.specs.declared.RecordFault.{RecordFault}
@@ -23,7 +23,7 @@ use Rattle.zengin.specs.declared.totals.Tally.{Tally}
 use Rattle.zengin.specs.Files.{lengthDenial, recordAt}
 use Rattle.zengin.specs.Judged.{countStated, amountStated, totals, tally, faultAt, walk, atStart, walkIfFine, summed}
 use Rattle.zengin.specs.Lawful.{amounts}
-use Rattle.zengin.specs.Offences.{Place, at-start, in-group, after-trailer, at-end, orderAt, Whole-groups, Begun, Offence, missing, of-no-sort, out-of-place, in-field, wrong-count, wrong-amount, First-offence, Names-first}
+use Rattle.zengin.specs.Offences.{Place, at-start, in-group, after-trailer, at-end, orderAt, Whole-groups, Begun, Offence, missing, of-no-sort, out-of-place, in-field, wrong-count, wrong-amount, First-offence, Names-first, wrong-length, too-many, in-record}
 use Rattle.zengin.proofs.Passing.{orderAfter, header-follows, end-follows, past, inside, Came, came}
 use Rattle.zengin.proofs.Walks.{unknown, not-here, at-field, at-totals, not-ended}
 use Rattle.zengin.proofs.Walks.{at-end as walk-ends}
@@ -122,11 +122,9 @@ right-length n least most whole = grind (arith, tells)
 
 -- whatever names the first offence is what the rules answer
 pub first-named : (b : Bytes) (r : Result Figures Denial) → r ≡ summed b → (d : Denial) → Names-first b d → r ≡ Err d
-first-named b r e BareLength n = e ∙ ap (walkIfFine b) (short-length (length b) n)
-first-named b r e TooManyRecords n = e ∙ ap (walkIfFine b) (long-length (length b) (n .0) (n .1))
-first-named b r e (Faulty f) n =
-    let fine = n .0 in
+first-named b r e _ (wrong-length wrong) = e ∙ ap (walkIfFine b) (short-length (length b) wrong)
+first-named b r e _ (too-many whole more) = e ∙ ap (walkIfFine b) (long-length (length b) whole more)
+first-named b r e (Faulty f) (in-record fine first) =
     let z : length b / 120 - 0 ≡ length b / 120 = omega arith in
     e ∙ ap (walkIfFine b) (right-length (length b) (fine .least) (fine .most) (fine .whole))
-    ∙ ap (λ m. walk b 0 m atStart) (sym z) ∙ walk-named b (length b / 120) f (omega (arith, fine .whole)) (n .1)
-first-named b r e ShortBuffer n = absurd n
+    ∙ ap (λ m. walk b 0 m atStart) (sym z) ∙ walk-named b (length b / 120) f (omega (arith, fine .whole)) first

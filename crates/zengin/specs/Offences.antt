@@ -6,7 +6,7 @@ use Prim.Native.Nat.{ℕ, _+_, _*_, _%_, _≤_, _<_}
 use lib.ListN.{length}
 use Rattle.std.specs.declared.option.Option.the-variants.{Some, None}
 use Rattle.denials.specs.declared.Denial.{Denial}
-use Rattle.denials.specs.declared.Denial.the-variants.{BareLength, TooManyRecords, Faulty, ShortBuffer}
+use Rattle.denials.specs.declared.Denial.the-variants.{BareLength, TooManyRecords, Faulty}
 use Rattle.denials.specs.declared.Fault.{Fault}
 use Rattle.denials.specs.declared.Fault.the-variants.{OutOfOrder, WrongCount, WrongAmount}
 use Rattle.denials.specs.declared.RecordFault.{RecordFault}
@@ -105,11 +105,13 @@ pub record Right-length (b : Bytes) : Type 0 where
   pub whole : length b % recordBytes ≡ 0
 
 -- a denial names the first offence: the length comes before all records
-abbrev pub Names-first : Bytes → Denial → Type 0
-Names-first b BareLength = (length b < leastRecords * recordBytes) ⊎ (length b % recordBytes ≡ 0 → ⊥)
-Names-first b TooManyRecords = (length b % recordBytes ≡ 0) × (mostRecords * recordBytes < length b)
-Names-first b (Faulty f) = Right-length b × First-offence b f
-Names-first b ShortBuffer = ⊥
+pub data Names-first (b : Bytes) : Denial → Type 0 where
+  -- too few bytes, or a part of a record at the end
+  wrong-length : (length b < leastRecords * recordBytes) ⊎ (length b % recordBytes ≡ 0 → ⊥) → Names-first b BareLength
+  -- too many records
+  too-many : length b % recordBytes ≡ 0 → mostRecords * recordBytes < length b → Names-first b TooManyRecords
+  -- a record at fault
+  in-record : {f : RecordFault} → Right-length b → First-offence b f → Names-first b (Faulty f)
 
 -- the place of a denial is a record of the largest file or one past it, and a column of a record
 pub record Placed (d : Denial) : Type 0 where
