@@ -1,5 +1,11 @@
 // What a claim says: who asks whom for how much.
 
+/// The largest number of ten digits.
+pub const TEN_DIGITS: u64 = 9_999_999_999;
+
+/// The largest number of fifteen digits.
+pub const FIFTEEN_DIGITS: u64 = 999_999_999_999_999;
+
 /// The parts of a claim as plain numbers, of whatever size.
 #[derive(Clone, Copy)]
 pub struct Terms {

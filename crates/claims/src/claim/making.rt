@@ -2,15 +2,11 @@
 ghost use mathlib.Core.Path.{_≡_};
 ghost use Rattle.claims.specs.Widths.{Wide, tenDigits, fifteenDigits, made};
 ghost use Rattle.claims.specs.Claims.{plain};
+use crate::terms::FIFTEEN_DIGITS;
+use crate::terms::TEN_DIGITS;
 use crate::terms::Terms;
 use denials::Denial;
 use super::Claim;
-
-/// The largest number of ten digits.
-pub const TEN_DIGITS: u64 = 9_999_999_999;
-
-/// The largest number of fifteen digits.
-pub const FIFTEEN_DIGITS: u64 = 999_999_999_999_999;
 
 impl Claim {
     /// The claim with these terms, or the denial of a number outside its width.

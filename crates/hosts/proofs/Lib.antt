@@ -1,0 +1,4 @@
+pub mod Firsts
+pub mod Layers
+pub mod Ledgers
+pub mod Sheets

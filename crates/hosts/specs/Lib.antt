@@ -1,0 +1,4 @@
+pub mod Firsts
+pub mod Ledgers
+pub mod Meaning
+pub mod Sheets
