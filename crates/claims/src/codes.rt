@@ -1,6 +1,6 @@
 // The seven result codes: what each is called, its number, and the digit that stands for it in a record.
 ghost use mathlib.Core.Path.{_≡_};
-ghost use Prim.Native.Nat.{ℕ, _+_};
+ghost use Prim.Native.Nat.{_+_};
 ghost use Rattle.std.specs.declared.option.Option.the-variants.{Some, None};
 ghost use Rattle.claims.specs.declared.codes.ResultCode.{ResultCode};
 ghost use Rattle.claims.specs.Codes.{numberOf, codeNumbered};

@@ -1,18 +1,14 @@
 -- What the row of a ledger that a search found says of a claim.
-use mathlib.Core.Path.{_≡_, refl, sym, ap, _∙_}
-use mathlib.Core.Bool.{false}
+use mathlib.Core.Path.{_≡_, sym, ap, _∙_}
 use mathlib.Core.List.{List}
 use Prim.Native.Nat.{ℕ}
 use lib.ListN.{getD, set}
 use Rattle.std.proofs.shelf.Lists.{set-getD}
-use Rattle.std.specs.declared.option.Option.{Option}
 use Rattle.std.specs.declared.option.Option.the-variants.{Some, None}
 use Rattle.hosts.specs.declared.ledger.LedgerRow.{LedgerRow}
 use Rattle.claims.specs.declared.terms.Terms.{Terms}
-use Rattle.claims.specs.declared.codes.ResultCode.{ResultCode}
-use Rattle.claims.specs.declared.codes.ResultCode.the-variants.{Settled, ShortOfFunds, NoAccount, StoppedByHolder, NoMandate, StoppedByBiller, Other}
-use Rattle.claims.specs.Codes.{settles}
-use Rattle.hosts.specs.Firsts.{first, atFirst, place, either}
+use Rattle.claims.specs.declared.codes.ResultCode.the-variants.{Settled, NoAccount}
+use Rattle.hosts.specs.Firsts.{atFirst, place}
 use Rattle.hosts.specs.Ledgers.{ofAccount, rowVerdict, drawn, ledgerVerdict, ledgerTaken, ledgerAfter}
 use Rattle.claims.proofs.Settling.{not-settled}
 use Rattle.hosts.proofs.Firsts.{at-read, at-none}

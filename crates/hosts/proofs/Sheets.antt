@@ -1,11 +1,10 @@
 -- What the row of a sheet that a search found says of a claim.
 use mathlib.Core.Path.{_≡_, refl, sym, ap, subst, _∙_}
-use mathlib.Core.Bool.{Bool, true, false, cond, not, _&&_}
+use mathlib.Core.Bool.{true, false}
 use mathlib.Core.List.{List, [], _∷_, _++_}
 use mathlib.Core.Logic.{inl, inr}
 use Prim.Native.Nat.{ℕ, _+_, _*_, _≤_, _<_, min}
 use native.Mathlib.Omega.{arith}
-use lib.Dec.{eqb, leb}
 use lib.ListN.{length, getD, set, take, drop}
 use Rattle.std.specs.shelf.Lists.{sumBy}
 use Rattle.std.proofs.shelf.Lists.{set-getD, length-take, take-all}
@@ -16,10 +15,8 @@ use Rattle.std.specs.declared.option.Option.{Option}
 use Rattle.std.specs.declared.option.Option.the-variants.{Some, None}
 use Rattle.hosts.specs.declared.sheet.SheetRow.{SheetRow}
 use Rattle.claims.specs.declared.terms.Terms.{Terms}
-use Rattle.claims.specs.declared.codes.ResultCode.{ResultCode}
-use Rattle.claims.specs.declared.codes.ResultCode.the-variants.{Settled, ShortOfFunds, NoAccount, StoppedByHolder, NoMandate, StoppedByBiller, Other}
+use Rattle.claims.specs.declared.codes.ResultCode.the-variants.{Settled, Other}
 use Rattle.claims.specs.Widths.{Wide}
-use Rattle.claims.specs.Codes.{settles}
 use Rattle.hosts.specs.Meaning.{share}
 use Rattle.hosts.specs.Firsts.{first, atFirst, place, either}
 use Rattle.hosts.specs.Sheets.{counted, answers, rowCode, figure, spend, sheetVerdict, sheetTaken, sheetAfter}

@@ -2,15 +2,14 @@
 ghost use mathlib.Core.Path.{_≡_};
 ghost use mathlib.Core.Bool.{cond};
 ghost use mathlib.Core.List.{[], _∷_, _++_};
-ghost use Prim.Native.Nat.{ℕ, _<_, _≤_};
+ghost use Prim.Native.Nat.{_<_, _≤_};
 ghost use Rattle.std.specs.Results.{isOk};
 ghost use Rattle.std.specs.Vec.{refused};
 ghost use Rattle.std.specs.Of.Vec.{vec-items, vec-len};
 ghost use Rattle.std.specs.Slices.{found};
 ghost use Rattle.claims.specs.declared.codes.ResultCode.the-variants.{Settled};
-ghost use Rattle.claims.specs.Widths.{tenDigits, fifteenDigits};
+ghost use Rattle.claims.specs.Widths.{tenDigits};
 ghost use Rattle.hosts.specs.Firsts.{place};
-ghost use Rattle.hosts.specs.Meaning.{figureLimit};
 ghost use Rattle.hosts.specs.Ledgers.{ofAccount, rowVerdict, drawn, ledgerVerdict, ledgerTaken, ledgerAfter};
 use claims::claim::Claim;
 use claims::codes::ResultCode;

@@ -2,14 +2,14 @@
 ghost use mathlib.Core.Path.{_≡_};
 ghost use mathlib.Core.Bool.{cond};
 ghost use mathlib.Core.List.{[], _∷_, _++_};
-ghost use Prim.Native.Nat.{ℕ, _<_};
+ghost use Prim.Native.Nat.{_<_};
 ghost use lib.ListN.{length};
 ghost use Rattle.std.specs.Results.{isOk};
 ghost use Rattle.std.specs.Vec.{refused};
 ghost use Rattle.std.specs.Of.Vec.{vec-items, vec-len};
 ghost use Rattle.std.specs.Slices.{found};
 ghost use Rattle.hosts.specs.Firsts.{place};
-ghost use Rattle.hosts.specs.Sheets.{rowsThatCount, counted, answers, rowCode, figure, spend, sheetVerdict, sheetTaken, sheetAfter};
+ghost use Rattle.hosts.specs.Sheets.{counted, answers, rowCode, figure, spend, sheetVerdict, sheetTaken, sheetAfter};
 use claims::claim::Claim;
 use claims::codes::ResultCode;
 use claims::codes::ResultCodePartialEq;

@@ -1,6 +1,6 @@
 // Making a claim from any numbers, and reading its terms.
 ghost use mathlib.Core.Path.{_≡_};
-ghost use Rattle.claims.specs.Widths.{Wide, tenDigits, fifteenDigits, made};
+ghost use Rattle.claims.specs.Widths.{Wide, made};
 ghost use Rattle.claims.specs.Claims.{plain};
 use crate::terms::FIFTEEN_DIGITS;
 use crate::terms::TEN_DIGITS;

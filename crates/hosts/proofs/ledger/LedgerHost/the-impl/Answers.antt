@@ -3,7 +3,7 @@ use mathlib.Core.Bool.{Bool, true, false, cond}
 use mathlib.Core.List.{List}
 use Prim.Native.Nat.{ℕ, _+_, _≤_}
 use native.Mathlib.Omega.{arith}
-use lib.Dec.{eqb, ltb}
+use lib.Dec.{eqb}
 use Rattle.std.specs.Of.Vec.{vec-items}
 use Rattle.std.proofs.shelf.Tests.{eqb-true, eqb-false, ne-eqb}
 use Rattle.std.proofs.shelf.Ways.{tells}
@@ -11,11 +11,9 @@ use Rattle.std.specs.declared.option.Option.{Option}
 use Rattle.std.specs.declared.option.Option.the-variants.{Some, None}
 use Rattle.hosts.specs.declared.ledger.LedgerRow.{LedgerRow}
 use Rattle.claims.specs.declared.terms.Terms.{Terms}
-use Rattle.claims.specs.declared.codes.ResultCode.{ResultCode}
-use Rattle.claims.specs.declared.codes.ResultCode.the-variants.{Settled, ShortOfFunds, NoAccount, StoppedByHolder, NoMandate, StoppedByBiller, Other}
-use Rattle.hosts.specs.Meaning.{share}
+use Rattle.claims.specs.declared.codes.ResultCode.the-variants.{Settled, NoAccount}
 use Rattle.hosts.specs.Firsts.{first, atFirst, either}
-use Rattle.hosts.specs.Ledgers.{ofAccount, rowVerdict, drawn, ledgerVerdict, ledgerTaken, ledgerAfter}
+use Rattle.hosts.specs.Ledgers.{ofAccount, rowVerdict, drawn, ledgerVerdict, ledgerTaken}
 use Rattle.hosts.proofs.Firsts.{first-same, first-other}
 use Rattle.hosts.proofs.Ledgers.{settled-rows, same-rows}
 use Rattle.hosts.proofs.ledger.LedgerHost.the-impl.Needs as need

@@ -1,4 +1,4 @@
-use mathlib.Core.Path.{sym, _∙_}
+use mathlib.Core.Path.{_∙_}
 use Rattle.std.specs.Of.Vec.{vec-items}
 use Rattle.hosts.proofs.Sheets as sheets
 use Rattle.hosts.proofs.sheet.SheetHost.inquire.Needs as need
