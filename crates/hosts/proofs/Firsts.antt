@@ -122,3 +122,13 @@ module _ {X : Type 0} (n : ℕ) (xs : List X) where
 
   pub getD-front : (i : ℕ) (d : X) → i < length (take n xs) → getD xs i d ≡ getD (take n xs) i d
   getD-front i d l = ap (λ (z : List X). getD z i d) (sym (take-append-drop n xs)) ∙ getD-append-left (take n xs) (drop n xs) d i l
+
+-- an element passes somewhere exactly if there is a first that passes
+module _ {X : Type 0} (p : X → Bool) where
+  found-more : (n : ℕ) (x : X) (k : Option ℕ) (o : Option X) (b : Bool) → isSome k ≡ isSome o → isSome (cond b (Some n) k) ≡ isSome (cond b (Some x) o)
+  found-more n x k o true h = refl
+  found-more n x k o false h = h
+
+  pub place-found : (n : ℕ) (xs : List X) → isSome (place p n xs) ≡ isSome (first p xs)
+  place-found n [] = refl
+  place-found n (x ∷ xs) = found-more n x (place p (n + 1) xs) (first p xs) (p x) (place-found (n + 1) xs)

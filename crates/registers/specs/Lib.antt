@@ -1,0 +1,4 @@
+pub mod Listings
+pub mod Rows
+pub mod Shows
+pub mod Tables

@@ -1,0 +1,4 @@
+// The four registers that stand above a host, and piles of them: nested by type, or stacked while the program runs.
+pub mod register;
+pub mod rows;
+pub mod table;
