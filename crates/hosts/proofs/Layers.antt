@@ -21,11 +21,6 @@ answered-above : (xs ys : List (Terms → Option ResultCode)) (c : Terms) (g : R
 answered-above [] ys c g = refl
 answered-above (x ∷ xs) ys c g = answered-more (x c) (uppermost xs c) (answered ys c g) (answered (xs ++ ys) c g) (answered-above xs ys c g)
 
--- one register alone
-pub alone : (o : Option ResultCode) → o ≡ either o None Some
-alone None = refl
-alone (Some k) = refl
-
 -- the five laws together
 pub record Laws {S : Type 0} (verdict : S → Terms → ResultCode) (taken : S → ℕ → ℕ) (debits : S → Terms → S → Type 0) (registers : S → List (Terms → Option ResultCode)) (ground : S → Terms → ResultCode) : Type 0 where
   pub raises : Settling-raises verdict taken debits
@@ -34,41 +29,43 @@ pub record Laws {S : Type 0} (verdict : S → Terms → ResultCode) (taken : S �
   pub limit : Settling-within-limit verdict taken
   pub highest : Verdict-of-the-uppermost verdict registers ground
 
+-- u stands above below u, and shows above u; kept: nothing changed; rest: what else a debit below comes with
 module _ {S U : Type 0} (verdict : S → Terms → ResultCode) (taken : S → ℕ → ℕ) (debits : S → Terms → S → Type 0) (registers : S → List (Terms → Option ResultCode)) (ground : S → Terms → ResultCode)
   (laws : Laws verdict taken debits registers ground)
-  (below : U → S) (above : U → List (Terms → Option ResultCode)) (objects : U → Terms → Option ResultCode) (rest : U → Terms → U → Type 0)
-  (agrees : (u : U) (c : Terms) → objects u c ≡ uppermost (above u) c)
-  (never : (u : U) (c : Terms) → objects u c ≡ Some Settled → ⊥)
-  (stable : (u v : U) (c : Terms) → rest u c v → (verdict (below u) c ≡ Settled → ⊥) → (d : Terms) → objects v d ≡ objects u d) where
+  (below : U → S) (above : U → List (Terms → Option ResultCode)) (rest kept : U → Terms → U → Type 0)
+  (never : (u : U) (c : Terms) → uppermost (above u) c ≡ Some Settled → ⊥)
+  (stable : (u v : U) (c : Terms) → rest u c v → (verdict (below u) c ≡ Settled → ⊥) → above v ≡ above u)
+  (kept-above : (u v : U) (c : Terms) → kept u c v → above v ≡ above u)
+  (kept-below : (u v : U) (c : Terms) → kept u c v → below v ≡ below u) where
 
   abbrev pub layer-verdict : U → Terms → ResultCode
-  layer-verdict s c = valueOr (objects s c) (verdict (below s) c)
+  layer-verdict u c = valueOr (uppermost (above u) c) (verdict (below u) c)
 
   abbrev pub layer-debits : U → Terms → U → Type 0
-  layer-debits s c t = Cases (objects s c) (debits (below s) c (below t) × rest s c t) (λ _. t ≡ s)
+  layer-debits u c v = Cases (uppermost (above u) c) (debits (below u) c (below v) × rest u c v) (λ _. kept u c v)
 
   -- a debit passes down if nothing above objects, and else leaves all as it is
-  passed : (s t : U) (c : Terms) (o : Option ResultCode) → objects s c ≡ o → Cases o (debits (below s) c (below t) × rest s c t) (λ _. t ≡ s) → valueOr o (verdict (below s) c) ≡ Settled → debits (below s) c (below t) × (verdict (below s) c ≡ Settled)
-  passed s t c None e d v = (d .0, v)
-  passed s t c (Some k) e d v = absurd (never s c (e ∙ ap Some v))
+  passed : (u v : U) (c : Terms) (o : Option ResultCode) → uppermost (above u) c ≡ o → Cases o (debits (below u) c (below v) × rest u c v) (λ _. kept u c v) → valueOr o (verdict (below u) c) ≡ Settled → debits (below u) c (below v) × (verdict (below u) c ≡ Settled)
+  passed u v c None e d is = (d .0, is)
+  passed u v c (Some k) e d is = absurd (never u c (e ∙ ap Some is))
 
-  settled-below : (s : U) (c : Terms) (o : Option ResultCode) → objects s c ≡ o → valueOr o (verdict (below s) c) ≡ Settled → verdict (below s) c ≡ Settled
-  settled-below s c None e v = v
-  settled-below s c (Some k) e v = absurd (never s c (e ∙ ap Some v))
+  settled-below : (u : U) (c : Terms) (o : Option ResultCode) → uppermost (above u) c ≡ o → valueOr o (verdict (below u) c) ≡ Settled → verdict (below u) c ≡ Settled
+  settled-below u c None e is = is
+  settled-below u c (Some k) e is = absurd (never u c (e ∙ ap Some is))
 
-  same-figure : (s t : U) (c : Terms) (o : Option ResultCode) → Wide c → Cases o (debits (below s) c (below t) × rest s c t) (λ _. t ≡ s) → (valueOr o (verdict (below s) c) ≡ Settled → ⊥) → (a : ℕ) → a ≤ fifteenDigits → taken (below t) a ≡ taken (below s) a
-  same-figure s t c None w d n a l = laws .figures (below s) (below t) c w (d .0) n a l
-  same-figure s t c (Some k) w d n a l = ap (λ u. taken (below u) a) d
+  same-figure : (u v : U) (c : Terms) (o : Option ResultCode) → Wide c → Cases o (debits (below u) c (below v) × rest u c v) (λ _. kept u c v) → (valueOr o (verdict (below u) c) ≡ Settled → ⊥) → (a : ℕ) → a ≤ fifteenDigits → taken (below v) a ≡ taken (below u) a
+  same-figure u v c None w d n a l = laws .figures (below u) (below v) c w (d .0) n a l
+  same-figure u v c (Some k) w d n a l = ap (λ s. taken s a) (kept-below u v c d)
 
-  same-verdict : (s t : U) (c : Terms) (o : Option ResultCode) → Wide c → Cases o (debits (below s) c (below t) × rest s c t) (λ _. t ≡ s) → (valueOr o (verdict (below s) c) ≡ Settled → ⊥) → (d : Terms) → Wide d → layer-verdict t d ≡ layer-verdict s d
-  same-verdict s t c None w d n x wx = let same = stable s t c (d .1) n x in let low = laws .verdicts (below s) (below t) c w (d .0) n x wx in cc
-  same-verdict s t c (Some k) w d n x wx = ap (λ u. layer-verdict u x) d
+  same-verdict : (u v : U) (c : Terms) (o : Option ResultCode) → Wide c → Cases o (debits (below u) c (below v) × rest u c v) (λ _. kept u c v) → (valueOr o (verdict (below u) c) ≡ Settled → ⊥) → (d : Terms) → Wide d → layer-verdict v d ≡ layer-verdict u d
+  same-verdict u v c None w d n x wx = let high = stable u v c (d .1) n in let low = laws .verdicts (below u) (below v) c w (d .0) n x wx in cc
+  same-verdict u v c (Some k) w d n x wx = let high = kept-above u v c d in let low = kept-below u v c d in cc
 
-  pub layered : Laws layer-verdict (λ s. taken (below s)) layer-debits (λ s. above s ++ registers (below s)) (λ s. ground (below s))
+  pub layered : Laws layer-verdict (λ u. taken (below u)) layer-debits (λ u. above u ++ registers (below u)) (λ u. ground (below u))
   layered = record {
-    raises = λ s t c w d v a l. let p = passed s t c (objects s c) refl d v in laws .raises (below s) (below t) c w (p .0) (p .1) a l;
-    figures = λ s t c w d n a l. same-figure s t c (objects s c) w d n a l;
-    verdicts = λ s t c w d n x wx. same-verdict s t c (objects s c) w d n x wx;
-    limit = λ s c w v. laws .limit (below s) c w (settled-below s c (objects s c) refl v);
-    highest = λ s c w. ap (valueOr (objects s c)) (laws .highest (below s) c w) ∙ ap (λ (o : Option ResultCode). valueOr o (answered (registers (below s)) c (ground (below s) c))) (agrees s c) ∙ sym (answered-above (above s) (registers (below s)) c (ground (below s) c));
+    raises = λ u v c w d is a l. let p = passed u v c (uppermost (above u) c) refl d is in laws .raises (below u) (below v) c w (p .0) (p .1) a l;
+    figures = λ u v c w d n a l. same-figure u v c (uppermost (above u) c) w d n a l;
+    verdicts = λ u v c w d n x wx. same-verdict u v c (uppermost (above u) c) w d n x wx;
+    limit = λ u c w is. laws .limit (below u) c w (settled-below u c (uppermost (above u) c) refl is);
+    highest = λ u c w. ap (valueOr (uppermost (above u) c)) (laws .highest (below u) c w) ∙ sym (answered-above (above u) (registers (below u)) c (ground (below u) c));
   }

@@ -1,1 +1,3 @@
-mod Tabling
+pub mod Layered
+pub mod Objections
+pub mod Tabling

@@ -1,4 +1,4 @@
 pub mod Listings
+pub mod Piles
 pub mod Rows
-pub mod Shows
 pub mod Tables

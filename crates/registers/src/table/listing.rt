@@ -7,7 +7,6 @@ ghost use Rattle.std.specs.Vec.{made};
 ghost use Rattle.std.specs.Slices.{found};
 ghost use Rattle.hosts.specs.Firsts.{place};
 ghost use Rattle.registers.specs.Tables.{isListed, listAnswer, listed, strikeAnswer, struck};
-ghost use Rattle.registers.specs.Shows.{figuresAbove};
 use denials::Denial;
 use std::alloc::AllocError;
 use std::alloc::Global;

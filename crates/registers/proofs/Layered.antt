@@ -1,0 +1,30 @@
+-- Registers above a host that keeps the laws keep them, however the registers are held.
+use mathlib.Core.Path.{_≡_, ap, _∙_}
+use mathlib.Core.Bool.{Bool, cond}
+use mathlib.Core.List.{List, map}
+use Prim.Native.Nat.{ℕ}
+use Rattle.std.specs.declared.option.Option.{Option}
+use Rattle.claims.specs.declared.terms.Terms.{Terms}
+use Rattle.claims.specs.declared.codes.ResultCode.{ResultCode}
+use Rattle.claims.specs.declared.codes.ResultCode.the-variants.{Settled}
+use Rattle.claims.proofs.Settling.{not-settled}
+use Rattle.hosts.proofs.Layers.{Laws, layered}
+use Rattle.registers.specs.Listings.{Listing, objects, fall}
+use Rattle.registers.specs.Piles.{verdictAbove, figuresAbove, registersAbove, groundAbove, after, Debited}
+use Rattle.registers.proofs.Objections.{never-settles}
+
+-- nothing falls unless the host below settled
+pub stays : (c : Terms) (k : ResultCode) (ls : List Listing) → (k ≡ Settled → ⊥) → after c k ls ≡ ls
+stays c k ls n = ap (λ (b : Bool). cond b (map (fall c) ls) ls) (not-settled k n)
+
+pub pile-laws : {S U : Type 0} (verdict : S → Terms → ResultCode) (taken : S → ℕ → ℕ) (debits : S → Terms → S → Type 0) (registers : S → List (Terms → Option ResultCode)) (ground : S → Terms → ResultCode)
+    → Laws verdict taken debits registers ground → (below : U → S) (lists : U → List Listing)
+    → Laws {S = U} (λ u c. verdictAbove (lists u) c (verdict (below u) c)) (λ u. figuresAbove (lists u) (taken (below u))) (λ u c v. Debited verdict debits (lists u) (below u) c (lists v) (below v)) (λ u. registersAbove (lists u) (registers (below u))) (λ u. groundAbove (lists u) (ground (below u)))
+pile-laws verdict taken debits registers ground laws below lists =
+    layered verdict taken debits registers ground laws below (λ u. map objects (lists u))
+      (λ u c v. lists v ≡ after c (verdict (below u) c) (lists u))
+      (λ u c v. (lists v ≡ lists u) × (below v ≡ below u))
+      (λ u c. never-settles (lists u) c)
+      (λ u v c fell n. ap (map objects) (fell ∙ stays c (verdict (below u) c) (lists u) n))
+      (λ u v c kept. ap (map objects) (kept .0))
+      (λ u v c kept. kept .1)
