@@ -1,3 +1,4 @@
 pub mod Layered
 pub mod Objections
+pub mod Stacking
 pub mod Tabling

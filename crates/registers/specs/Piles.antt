@@ -71,3 +71,7 @@ pub record Stacked-as-nested {S : Type 0} (verdict : S → Terms → ResultCode)
 -- where a register objects, nothing below is debited, and no register falls
 abbrev pub Stopped : {S : Type 0} → (S → Terms → ResultCode) → (S → Terms → S → Type 0) → Type 0
 Stopped {S} verdict debits = (ls ls′ : List Listing) (s s′ : S) (c : Terms) (k : ResultCode) → objection ls c ≡ Some k → Debited verdict debits ls s c ls′ s′ → (s′ ≡ s) × (ls′ ≡ ls)
+
+-- taken figures are those of the host below
+abbrev pub Figures-of-the-bottom : {S : Type 0} → (S → ℕ → ℕ) → Type 0
+Figures-of-the-bottom {S} taken = (ls : List Listing) (s : S) (a : ℕ) → figuresAbove ls (taken s) a ≡ taken s a

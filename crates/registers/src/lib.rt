@@ -1,5 +1,6 @@
 // The four registers that stand above a host, and piles of them: nested by type, or stacked while the program runs.
 pub mod above;
+pub mod pile;
 pub mod register;
 pub mod rows;
 pub mod table;
