@@ -2,8 +2,6 @@
 use mathlib.Core.Path.{_≡_, ap, _∙_}
 use mathlib.Core.Bool.{Bool, cond}
 use mathlib.Core.List.{List, map}
-use Prim.Native.Nat.{ℕ}
-use Rattle.std.specs.declared.option.Option.{Option}
 use Rattle.claims.specs.declared.terms.Terms.{Terms}
 use Rattle.claims.specs.declared.codes.ResultCode.{ResultCode}
 use Rattle.claims.specs.declared.codes.ResultCode.the-variants.{Settled}

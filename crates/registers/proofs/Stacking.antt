@@ -16,7 +16,7 @@ use Rattle.claims.specs.Codes.{settles}
 use Rattle.hosts.specs.Firsts.{either}
 use Rattle.registers.specs.declared.register.Register.{Register}
 use Rattle.registers.specs.Listings.{Listing, listing, objects, fall}
-use Rattle.registers.specs.Piles.{listings, objection, verdictAbove, after, Debited, Silent, Uppermost-objects, Or-else-the-host, Stacked-as-nested, Stopped}
+use Rattle.registers.specs.Piles.{listings, objection, after, Silent, Uppermost-objects, Or-else-the-host, Stacked-as-nested, Stopped}
 use Rattle.registers.proofs.Objections.{never-settles}
 use Rattle.registers.proofs.Layered.{stays}
 

@@ -1,5 +1,5 @@
 -- What the place that a search found tells of a table: whether a row is listed, and the rows without it.
-use mathlib.Core.Path.{_≡_, refl, sym, ap, subst, _∙_}
+use mathlib.Core.Path.{_≡_, sym, ap, subst, _∙_}
 use mathlib.Core.Bool.{Bool, true, false, cond}
 use mathlib.Core.List.{List, [], _∷_, _++_}
 use Prim.Native.Nat.{ℕ, suc, _+_, _-_, _≤_}
@@ -8,9 +8,7 @@ use lib.ListN.{take, drop}
 use Rattle.std.specs.Options.{isSome}
 use Rattle.std.specs.declared.option.Option.{Option}
 use Rattle.std.specs.declared.option.Option.the-variants.{Some, None}
-use Rattle.std.specs.declared.result.Result.{Result}
 use Rattle.std.specs.declared.result.Result.the-variants.{Ok, Err}
-use Rattle.denials.specs.declared.Denial.{Denial}
 use Rattle.denials.specs.declared.Denial.the-variants.{NotListed}
 use Rattle.hosts.specs.Firsts.{place}
 use Rattle.hosts.proofs.Firsts.{place-found}

@@ -1,7 +1,6 @@
 // One register above any host, another register above a host included: piles nested by type.
 ghost use mathlib.Core.Path.{_≡_};
 ghost use mathlib.Core.List.{[], _∷_};
-ghost use Prim.Native.Nat.{ℕ};
 ghost use Rattle.registers.specs.Listings.{listing, objects};
 ghost use Rattle.registers.specs.Piles.{verdictAbove, figuresAbove, registersAbove, groundAbove, Debited};
 use claims::claim::Claim;

@@ -85,6 +85,9 @@ impl<P: Host> Pile<P> {
         ensures piled { λ r. ⌜ vec-items (now (self .exit) .registers) ≡ cond (isOk r) (register ∷ vec-items (now (self .entry) .registers)) (vec-items (now (self .entry) .registers)) ⌝ }
         ensures refused { λ r. ⌜ refused r (λ y. y .value ≡ register) ⌝ }
         ensures below { λ _. ⌜ now (self .exit) .below ≡ now (self .entry) .below ⌝ }
+        ensures uppermost { λ r. ⌜ registersAbove (listings (vec-items (now (self .exit) .registers))) (registers (now (self .exit) .below)) ≡ cond (isOk r) (objects (listing register) ∷ registersAbove (listings (vec-items (now (self .entry) .registers))) (registers (now (self .entry) .below))) (registersAbove (listings (vec-items (now (self .entry) .registers))) (registers (now (self .entry) .below))) ⌝ }
+        ensures ground { λ _. ⌜ groundAbove (listings (vec-items (now (self .exit) .registers))) (ground (now (self .exit) .below)) ≡ groundAbove (listings (vec-items (now (self .entry) .registers))) (ground (now (self .entry) .below)) ⌝ }
+        ensures taken { λ _. ⌜ figuresAbove (listings (vec-items (now (self .exit) .registers))) (taken (now (self .exit) .below)) ≡ figuresAbove (listings (vec-items (now (self .entry) .registers))) (taken (now (self .entry) .below)) ⌝ }
     {
         self.registers.insert(0, register)
     }
@@ -94,6 +97,8 @@ impl<P: Host> Pile<P> {
         ensures piled { λ r. ⌜ vec-items (now (self .entry) .registers) ≡ listOf r ++ vec-items (now (self .exit) .registers) ⌝ }
         ensures empty { λ r. ⌜ (r ≡ None → vec-items (now (self .entry) .registers) ≡ []) ⌝ }
         ensures below { λ _. ⌜ now (self .exit) .below ≡ now (self .entry) .below ⌝ }
+        ensures ground { λ _. ⌜ groundAbove (listings (vec-items (now (self .exit) .registers))) (ground (now (self .exit) .below)) ≡ groundAbove (listings (vec-items (now (self .entry) .registers))) (ground (now (self .entry) .below)) ⌝ }
+        ensures taken { λ _. ⌜ figuresAbove (listings (vec-items (now (self .exit) .registers))) (taken (now (self .exit) .below)) ≡ figuresAbove (listings (vec-items (now (self .entry) .registers))) (taken (now (self .entry) .below)) ⌝ }
     {
         if self.registers.is_empty() {
             return None;

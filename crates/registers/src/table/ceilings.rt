@@ -1,7 +1,7 @@
 // A table of ceilings: what is left to a biller, and the row that falls.
 ghost use mathlib.Core.Path.{_≡_};
 ghost use Rattle.std.specs.Of.Vec.{vec-items};
-ghost use Rattle.hosts.specs.Firsts.{first, atFirst};
+ghost use Rattle.hosts.specs.Firsts.{atFirst};
 ghost use Rattle.registers.specs.Listings.{ofBiller, leftTo, lowered};
 use super::Table;
 use crate::rows::CeilingRow;

@@ -6,6 +6,7 @@ ghost use Rattle.std.specs.Of.Vec.{vec-items, vec-len};
 ghost use Rattle.std.specs.Vec.{made};
 ghost use Rattle.std.specs.Slices.{found};
 ghost use Rattle.hosts.specs.Firsts.{place};
+ghost use Rattle.registers.specs.Piles.{figuresAbove};
 ghost use Rattle.registers.specs.Tables.{isListed, listAnswer, listed, strikeAnswer, struck};
 use denials::Denial;
 use std::alloc::AllocError;
@@ -55,6 +56,7 @@ impl<R: Row + Copy> Table<R> {
     pub fn list(&mut self, row: R) -> Result<(), Denial>
         ensures answer { λ r. ⌜ r ≡ listAnswer same wide (vec-items (now (self .entry) .rows)) row ⌝ }
         ensures rows { λ _. ⌜ vec-items (now (self .exit) .rows) ≡ listed same wide (vec-items (now (self .entry) .rows)) row ⌝ }
+        ensures taken { λ _. ⌜ ((below : ℕ → ℕ) → figuresAbove (vec-items (now (self .exit) .rows)) below ≡ figuresAbove (vec-items (now (self .entry) .rows)) below) ⌝ }
     {
         if !row.is_wide() {
             return Err(Denial::OutsideWidth);
@@ -73,6 +75,7 @@ impl<R: Row + Copy> Table<R> {
     pub fn strike(&mut self, key: &R) -> Result<(), Denial>
         ensures answer { λ r. ⌜ r ≡ strikeAnswer same wideKey (vec-items (now (self .entry) .rows)) (now (key .entry)) ⌝ }
         ensures rows { λ _. ⌜ vec-items (now (self .exit) .rows) ≡ struck same wideKey (vec-items (now (self .entry) .rows)) (now (key .entry)) ⌝ }
+        ensures taken { λ _. ⌜ ((below : ℕ → ℕ) → figuresAbove (vec-items (now (self .exit) .rows)) below ≡ figuresAbove (vec-items (now (self .entry) .rows)) below) ⌝ }
     {
         if !key.is_wide_key() {
             return Err(Denial::OutsideWidth);
