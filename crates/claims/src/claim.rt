@@ -1,6 +1,7 @@
 // A claim: terms that keep their widths, which its type says.
 ghost use Rattle.claims.specs.Widths.{Wide};
 use crate::terms::Terms;
+
 mod making;
 
 #[derive(Clone, Copy)]

@@ -1,6 +1,9 @@
-// Files that show the rules: the marked ones as a theorem, and longer ones as tests.
+// What shows the rules at work: the marked files as a theorem, longer files and hosts at their limits as tests, and a foreign host.
 ghost use Rattle.examples.specs.Marked.{Marked-answered};
 
+pub mod foreign;
+#[cfg(test)]
+mod host_tests;
 #[cfg(test)]
 mod tests;
 

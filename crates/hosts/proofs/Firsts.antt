@@ -114,8 +114,9 @@ module _ {X : Type 0} (n : ℕ) (xs : List X) where
   -- a change that keeps the length of the first n
   pub take-front : (zs : List X) → length zs ≡ length (take n xs) → take n (zs ++ drop n xs) ≡ zs
   take-front zs e = elim (cases-lt (length xs) n) [
-      inl l ↦ let k : length xs ≤ n = omega arith in let a = ap length (take-all n xs k) in rw (drop-all n xs k, append-nil zs) (take-all n zs (omega arith))
-    | inr g ↦ take-at zs (drop n xs) n (e ∙ length-take-le n xs g) ]
+    | inl l ↦ let k : length xs ≤ n = omega arith in let a = ap length (take-all n xs k) in rw (drop-all n xs k, append-nil zs) (take-all n zs (omega arith))
+    | inr g ↦ take-at zs (drop n xs) n (e ∙ length-take-le n xs g)
+  ]
 
   pub set-front : (i : ℕ) (y : X) → i < length (take n xs) → set xs i y ≡ set (take n xs) i y ++ drop n xs
   set-front i y l = ap (λ (z : List X). set z i y) (sym (take-append-drop n xs)) ∙ set-append-left (take n xs) (drop n xs) i y l

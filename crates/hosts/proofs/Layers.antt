@@ -31,13 +31,12 @@ pub record Laws {S : Type 0} (verdict : S → Terms → ResultCode) (taken : S �
 
 -- u stands above below u, and shows above u; kept: nothing changed; rest: what else a debit below comes with
 module _ {S U : Type 0} (verdict : S → Terms → ResultCode) (taken : S → ℕ → ℕ) (debits : S → Terms → S → Type 0) (registers : S → List (Terms → Option ResultCode)) (ground : S → Terms → ResultCode)
-  (laws : Laws verdict taken debits registers ground)
-  (below : U → S) (above : U → List (Terms → Option ResultCode)) (rest kept : U → Terms → U → Type 0)
-  (never : (u : U) (c : Terms) → uppermost (above u) c ≡ Some Settled → ⊥)
-  (stable : (u v : U) (c : Terms) → rest u c v → (verdict (below u) c ≡ Settled → ⊥) → above v ≡ above u)
-  (kept-above : (u v : U) (c : Terms) → kept u c v → above v ≡ above u)
-  (kept-below : (u v : U) (c : Terms) → kept u c v → below v ≡ below u) where
-
+    (laws : Laws verdict taken debits registers ground)
+    (below : U → S) (above : U → List (Terms → Option ResultCode)) (rest kept : U → Terms → U → Type 0)
+    (never : (u : U) (c : Terms) → uppermost (above u) c ≡ Some Settled → ⊥)
+    (stable : (u v : U) (c : Terms) → rest u c v → (verdict (below u) c ≡ Settled → ⊥) → above v ≡ above u)
+    (kept-above : (u v : U) (c : Terms) → kept u c v → above v ≡ above u)
+    (kept-below : (u v : U) (c : Terms) → kept u c v → below v ≡ below u) where
   abbrev pub layer-verdict : U → Terms → ResultCode
   layer-verdict u c = valueOr (uppermost (above u) c) (verdict (below u) c)
 

@@ -52,8 +52,9 @@ few rs = omega (arith, length-take 100000 rs)
 
 pub capped : (m n : ℕ) (xs ys : List SheetRow) → ys ≡ xs → n ≡ min (length xs) m → take n ys ≡ take m xs
 capped m n xs ys e h = elim (cases-lt (length xs) m) [
-    inl l ↦ let k : n ≡ length xs = omega arith in rw (e, k) (take-all (length xs) xs (omega arith) ∙ sym (take-all m xs (omega arith)))
-  | inr g ↦ let k : n ≡ m = omega arith in rw (e, k) ]
+  | inl l ↦ let k : n ≡ length xs = omega arith in rw (e, k) (take-all (length xs) xs (omega arith) ∙ sym (take-all m xs (omega arith)))
+  | inr g ↦ let k : n ≡ m = omega arith in rw (e, k)
+]
 
 -- a sum over rows of which one is spent on a claim rises by the claim's share
 risen : (rs : List SheetRow) (c : Terms) (a : ℕ) (o : Option SheetRow) → Wide c → first (answers c) rs ≡ o → either o Other rowCode ≡ Settled → sumBy (figure a) (atFirst (answers c) spend rs) ≡ sumBy (figure a) rs + share a c

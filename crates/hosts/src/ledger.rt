@@ -11,11 +11,11 @@ ghost use Rattle.claims.specs.declared.codes.ResultCode.the-variants.{Settled};
 ghost use Rattle.claims.specs.Widths.{tenDigits};
 ghost use Rattle.hosts.specs.Firsts.{place};
 ghost use Rattle.hosts.specs.Ledgers.{ofAccount, rowVerdict, drawn, ledgerVerdict, ledgerTaken, ledgerAfter};
+use crate::host::FIGURE_LIMIT;
+use crate::host::Host;
 use claims::claim::Claim;
 use claims::codes::ResultCode;
 use claims::codes::ResultCodePartialEq;
-use crate::host::FIGURE_LIMIT;
-use crate::host::Host;
 use std::alloc::Global;
 use std::alloc::Refused;
 

@@ -10,12 +10,12 @@ ghost use Rattle.std.specs.Of.Vec.{vec-items, vec-len};
 ghost use Rattle.std.specs.Slices.{found};
 ghost use Rattle.hosts.specs.Firsts.{place};
 ghost use Rattle.hosts.specs.Sheets.{counted, answers, rowCode, figure, spend, sheetVerdict, sheetTaken, sheetAfter};
+use crate::host::Host;
 use claims::claim::Claim;
 use claims::codes::ResultCode;
 use claims::codes::ResultCodePartialEq;
 use claims::terms::TEN_DIGITS;
 use claims::terms::Terms;
-use crate::host::Host;
 use std::alloc::Global;
 use std::alloc::Refused;
 

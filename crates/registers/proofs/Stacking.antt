@@ -108,8 +108,8 @@ module _ {S : Type 0} (verdict : S → Terms → ResultCode) (debits : S → Ter
     abbrev Nested-by : Option ResultCode → Option ResultCode → Type 0
     Nested-by o p =
         Cases (either o None Some)
-          (Cases p (debits s c s′ × (ls′ ≡ after c (verdict s c) ls)) (λ _. (ls′ ≡ ls) × (s′ ≡ s)) × (l′ ∷ [] ≡ after c (valueOr p (verdict s c)) (l ∷ [])))
-          (λ _. (l′ ∷ [] ≡ l ∷ []) × (_≡_ {A = List Listing × S} (ls′, s′) (ls, s)))
+        (Cases p (debits s c s′ × (ls′ ≡ after c (verdict s c) ls)) (λ _. (ls′ ≡ ls) × (s′ ≡ s)) × (l′ ∷ [] ≡ after c (valueOr p (verdict s c)) (l ∷ [])))
+        (λ _. (l′ ∷ [] ≡ l ∷ []) × (_≡_ {A = List Listing × S} (ls′, s′) (ls, s)))
 
     not-settled-there : (k : ResultCode) → objection ls c ≡ Some k → k ≡ Settled → ⊥
     not-settled-there k e is = never-settles ls c (e ∙ ap Some is)

@@ -3,11 +3,11 @@ ghost use mathlib.Core.Path.{_≡_};
 ghost use mathlib.Core.List.{[], _∷_};
 ghost use Rattle.registers.specs.Listings.{listing, objects};
 ghost use Rattle.registers.specs.Piles.{verdictAbove, figuresAbove, registersAbove, groundAbove, Debited};
+use crate::register::Register;
 use claims::claim::Claim;
 use claims::codes::ResultCode;
 use claims::codes::ResultCodePartialEq;
 use hosts::host::Host;
-use crate::register::Register;
 
 #[derive(Drop)]
 pub struct Above<P> {

@@ -5,16 +5,15 @@ ghost use mathlib.Core.List.{[], _∷_, _++_, map};
 ghost use Rattle.std.specs.Vec.{listOf, refused};
 ghost use Rattle.std.specs.declared.option.Option.the-variants.{None};
 ghost use Rattle.std.specs.Results.{isOk};
-
 ghost use Rattle.std.specs.Of.Vec.{vec-items};
 ghost use Rattle.registers.specs.Listings.{listing, objects, fall};
 ghost use Rattle.registers.specs.Piles.{listings, objection as objectionOf, verdictAbove, figuresAbove, registersAbove, groundAbove, Debited, Figures-of-the-bottom, Uppermost-objects, Or-else-the-host, Stacked-as-nested, Stopped};
+use crate::register::Register;
 use claims::claim::Claim;
 use claims::codes::ResultCode;
 use claims::codes::ResultCodePartialEq;
 use claims::terms::Terms;
 use hosts::host::Host;
-use crate::register::Register;
 use std::alloc::Global;
 use std::alloc::Refused;
 
@@ -127,8 +126,7 @@ impl<P: Host> Pile<P> {
         ensures stopped { λ _. ⌜ Stopped verdict debits ⌝ }
         ensures figures { λ _. ⌜ Figures-of-the-bottom taken ⌝ }
         ensures nested { λ _. ⌜ Stacked-as-nested verdict debits ⌝ }
-    {
-    }
+    {}
 }
 
 pub impl<P: Host> Host for Pile<P> as PileHost {

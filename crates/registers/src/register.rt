@@ -1,8 +1,6 @@
 // One register of any of the four sorts: its objection to a claim, and the fall of a ceiling.
 ghost use mathlib.Core.Path.{_≡_};
 ghost use Rattle.registers.specs.Listings.{listing, objects, fall};
-use claims::codes::ResultCode;
-use claims::terms::Terms;
 use crate::rows::AccountRow;
 use crate::rows::AccountRowKey;
 use crate::rows::CeilingRow;
@@ -10,6 +8,8 @@ use crate::rows::CeilingRowKey;
 use crate::rows::CustomerRow;
 use crate::rows::CustomerRowKey;
 use crate::table::Table;
+use claims::codes::ResultCode;
+use claims::terms::Terms;
 
 #[derive(Drop)]
 pub enum Register {

@@ -2,11 +2,11 @@
 ghost use mathlib.Core.Path.{_≡_};
 ghost use Rattle.claims.specs.Widths.{Wide, made};
 ghost use Rattle.claims.specs.Claims.{plain};
+use super::Claim;
 use crate::terms::FIFTEEN_DIGITS;
 use crate::terms::TEN_DIGITS;
 use crate::terms::Terms;
 use denials::Denial;
-use super::Claim;
 
 impl Claim {
     /// The claim with these terms, or the denial of a number outside its width.

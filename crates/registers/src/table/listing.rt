@@ -8,11 +8,11 @@ ghost use Rattle.std.specs.Slices.{found};
 ghost use Rattle.hosts.specs.Firsts.{place};
 ghost use Rattle.registers.specs.Piles.{figuresAbove};
 ghost use Rattle.registers.specs.Tables.{isListed, listAnswer, listed, strikeAnswer, struck};
+use super::Table;
+use crate::rows::Row;
 use denials::Denial;
 use std::alloc::AllocError;
 use std::alloc::Global;
-use super::Table;
-use crate::rows::Row;
 
 /// The most rows that a register holds.
 pub const ROW_LIMIT: usize = 256;

@@ -9,7 +9,7 @@ pub returns-then-row-account : need.returns-then-row-account
 returns-then-row-account c =
     record {
       value = firsts.here (ofAccount (c .args .account)) _ _ _ (c .deref-row-items .ensures .value) (c .loop-i .inv) _ (c .loop-i-test .taken) (sym (eq-eqb _ _ (c .if-row-account .taken)));
-      within = search needs
+      within = search needs;
     }
 
 pub loop-i-again : need.loop-i-again

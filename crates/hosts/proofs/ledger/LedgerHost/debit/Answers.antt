@@ -13,12 +13,12 @@ pub returns-then-eq : need.returns-then-eq
 returns-then-eq c =
     record {
       answer = c .verdict-code .ensures ∙ ledgers.says _ _ _ (c .terms-terms .ensures .value) _ _ (c .in-Some .ensures tt .value) (c .index-mut-row .ensures .value);
-      once = ap (λ r. set (vec-items (c .args .self .now .rows)) (c .in-Some .i) r) (c .draw .ensures) ∙ ledgers.settled _ _ _ (c .terms-terms .ensures .value) _ _ (c .in-Some .ensures tt .value) (c .index-mut-row .ensures .value) (sym (c .verdict-code .ensures) ∙ c .if-eq .ensures tt)
+      once = ap (λ r. set (vec-items (c .args .self .now .rows)) (c .in-Some .i) r) (c .draw .ensures) ∙ ledgers.settled _ _ _ (c .terms-terms .ensures .value) _ _ (c .in-Some .ensures tt .value) (c .index-mut-row .ensures .value) (sym (c .verdict-code .ensures) ∙ c .if-eq .ensures tt);
     }
 
 pub returns-else-eq : need.returns-else-eq
 returns-else-eq c =
     record {
       answer = c .verdict-code .ensures ∙ ledgers.says _ _ _ (c .terms-terms .ensures .value) _ _ (c .in-Some .ensures tt .value) (c .index-mut-row .ensures .value);
-      once = ledgers.refused _ _ _ (c .terms-terms .ensures .value) _ _ (c .in-Some .ensures tt .value) (c .index-mut-row .ensures .value) (λ v. c .if-eq .ensures tt (c .verdict-code .ensures ∙ v))
+      once = ledgers.refused _ _ _ (c .terms-terms .ensures .value) _ _ (c .in-Some .ensures tt .value) (c .index-mut-row .ensures .value) (λ v. c .if-eq .ensures tt (c .verdict-code .ensures ∙ v));
     }

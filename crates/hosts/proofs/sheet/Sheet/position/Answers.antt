@@ -12,7 +12,7 @@ returns-then-is-answer c =
     record {
       value = firsts.here (answers (c .args .terms)) _ _ _ (c .counted-row-items .ensures) (c .loop-i .inv) _ (c .loop-i-test .taken) (c .if-is-answer .ensures tt);
       within = omega (arith, ap length (c .counted-row-items .ensures));
-      inside = omega (arith, ap length (c .counted-row-items .ensures), length-take 100000 (vec-items (c .args .self .now .rows)), c .args .self .now .rows .ok .0)
+      inside = omega (arith, ap length (c .counted-row-items .ensures), length-take 100000 (vec-items (c .args .self .now .rows)), c .args .self .now .rows .ok .0);
     }
 
 pub loop-i-again : need.loop-i-again

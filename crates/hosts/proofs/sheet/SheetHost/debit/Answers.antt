@@ -13,12 +13,12 @@ pub returns-then-eq : need.returns-then-eq
 returns-then-eq c =
     record {
       answer = c .result-code .ensures ∙ sheets.says _ _ _ (c .terms .ensures .value) _ _ (c .in-Some .ensures tt .value) (c .in-Some .ensures tt .within) (c .index-mut-row .ensures .value);
-      once = ap (λ r. set (vec-items (c .args .self .now .rows)) (c .in-Some .i) r) (c .spend .ensures) ∙ sheets.settled _ _ _ (c .terms .ensures .value) _ _ (c .in-Some .ensures tt .value) (c .in-Some .ensures tt .within) (c .index-mut-row .ensures .value) (sym (c .result-code .ensures) ∙ c .if-eq .ensures tt)
+      once = ap (λ r. set (vec-items (c .args .self .now .rows)) (c .in-Some .i) r) (c .spend .ensures) ∙ sheets.settled _ _ _ (c .terms .ensures .value) _ _ (c .in-Some .ensures tt .value) (c .in-Some .ensures tt .within) (c .index-mut-row .ensures .value) (sym (c .result-code .ensures) ∙ c .if-eq .ensures tt);
     }
 
 pub returns-else-eq : need.returns-else-eq
 returns-else-eq c =
     record {
       answer = c .result-code .ensures ∙ sheets.says _ _ _ (c .terms .ensures .value) _ _ (c .in-Some .ensures tt .value) (c .in-Some .ensures tt .within) (c .index-mut-row .ensures .value);
-      once = sheets.refused _ _ _ (c .terms .ensures .value) _ _ (c .in-Some .ensures tt .value) (c .in-Some .ensures tt .within) (c .index-mut-row .ensures .value) (λ v. c .if-eq .ensures tt (c .result-code .ensures ∙ v))
+      once = sheets.refused _ _ _ (c .terms .ensures .value) _ _ (c .in-Some .ensures tt .value) (c .in-Some .ensures tt .within) (c .index-mut-row .ensures .value) (λ v. c .if-eq .ensures tt (c .result-code .ensures ∙ v));
     }

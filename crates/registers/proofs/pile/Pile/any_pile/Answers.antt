@@ -8,5 +8,5 @@ returns g c = record {
   otherwise = stacking.or-else-the-host;
   stopped = stacking.stopped (g .P·Host .verdict) (g .P·Host .debits);
   figures = λ ls s a. refl;
-  nested = stacking.stacked-as-nested (g .P·Host .verdict) (g .P·Host .debits)
+  nested = stacking.stacked-as-nested (g .P·Host .verdict) (g .P·Host .debits);
 }

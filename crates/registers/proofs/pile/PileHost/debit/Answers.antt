@@ -11,5 +11,5 @@ returns-then-eq g c =
     let fell = stacking.lowered-all _ _ _ _ (c .as-mut-slice .ensures .value) (c .terms-terms .ensures .value) _ _ (sym (c .debit-code .ensures .answer) ∙ c .if-eq .ensures tt) (c .lower .ensures) in
     record {
       answer = stacking.through _ _ _ n (c .debit-code .ensures .answer);
-      once = stacking.down _ _ n (c .debit-code .ensures .once, ap listings items ∙ fell)
+      once = stacking.down _ _ n (c .debit-code .ensures .once, ap listings items ∙ fell);
     }

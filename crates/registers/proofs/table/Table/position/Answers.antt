@@ -7,7 +7,7 @@ pub returns-then-is-same : need.returns-then-is-same
 returns-then-is-same g c =
     record {
       value = firsts.here (g .R·Row .same (c .args .key .now)) _ _ _ (c .deref-row-items .ensures .value) (c .loop-i .inv) _ (c .loop-i-test .taken) (c .if-is-same .ensures tt ∙ ap (g .R·Row .same (c .args .key .now)) (c .row-item .is));
-      within = search needs
+      within = search needs;
     }
 
 pub loop-i-again : need.loop-i-again
