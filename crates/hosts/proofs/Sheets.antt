@@ -1,4 +1,4 @@
--- What the row of a sheet that a search found says of a claim.
+-- What the row of a sheet that a search found says of a claim, and the laws of a host over the rows of a sheet.
 use mathlib.Core.Path.{_≡_, refl, sym, ap, subst, _∙_}
 use mathlib.Core.Bool.{true, false}
 use mathlib.Core.List.{List, [], _∷_, _++_}
@@ -20,13 +20,14 @@ use Rattle.claims.specs.Widths.{Wide}
 use Rattle.hosts.specs.Meaning.{share}
 use Rattle.hosts.specs.Firsts.{first, atFirst, place, either}
 use Rattle.hosts.specs.Sheets.{counted, answers, rowCode, figure, spend, sheetVerdict, sheetTaken, sheetAfter}
+use Rattle.hosts.proofs.Layers.{Laws}
 use Rattle.hosts.proofs.Firsts.{at-read, at-none, sum-first, first-true, length-atFirst, take-front, set-front, getD-front}
 use Rattle.claims.proofs.Settling.{not-settled}
 
-pub settled-rows : (rs : List SheetRow) (c : Terms) → sheetVerdict rs c ≡ Settled → sheetAfter rs c ≡ atFirst (answers c) spend (counted rs) ++ drop 100000 rs
+settled-rows : (rs : List SheetRow) (c : Terms) → sheetVerdict rs c ≡ Settled → sheetAfter rs c ≡ atFirst (answers c) spend (counted rs) ++ drop 100000 rs
 settled-rows rs c v = rw v
 
-pub same-rows : (rs : List SheetRow) (c : Terms) → (sheetVerdict rs c ≡ Settled → ⊥) → sheetAfter rs c ≡ rs
+same-rows : (rs : List SheetRow) (c : Terms) → (sheetVerdict rs c ≡ Settled → ⊥) → sheetAfter rs c ≡ rs
 same-rows rs c n = rw (not-settled (sheetVerdict rs c) n)
 
 -- the code 0 alone is settled
@@ -40,7 +41,7 @@ unspent c r a e = grind (arith, tells)
 spent-now : (c : Terms) (r : SheetRow) (a : ℕ) → Wide c → r .code ≡ 0 → answers c r ≡ true → figure a (spend r) ≡ share a c
 spent-now c r a w z e = grind (arith, tells)
 
-pub small-figure : (a : ℕ) (r : SheetRow) → figure a r ≤ 9999999999
+small-figure : (a : ℕ) (r : SheetRow) → figure a r ≤ 9999999999
 small-figure a r = grind (arith, tells)
 
 sum-small : (a : ℕ) (rs : List SheetRow) → sumBy (figure a) rs ≤ length rs * 9999999999
@@ -67,14 +68,23 @@ risen rs c a (Some r) w e v =
 front : (rs : List SheetRow) (c : Terms) → take 100000 (atFirst (answers c) spend (counted rs) ++ drop 100000 rs) ≡ atFirst (answers c) spend (counted rs)
 front rs c = take-front 100000 rs (atFirst (answers c) spend (counted rs)) (length-atFirst (answers c) spend (counted rs))
 
-pub moved : (rs : List SheetRow) (c : Terms) (a : ℕ) → Wide c → sheetVerdict rs c ≡ Settled → sheetTaken (sheetAfter rs c) a ≡ sheetTaken rs a + share a c
+moved : (rs : List SheetRow) (c : Terms) (a : ℕ) → Wide c → sheetVerdict rs c ≡ Settled → sheetTaken (sheetAfter rs c) a ≡ sheetTaken rs a + share a c
 moved rs c a w v = ap (λ (l : List SheetRow). sheetTaken l a) (settled-rows rs c v) ∙ ap (sumBy (figure a)) (front rs c) ∙ risen (counted rs) c a (first (answers c) (counted rs)) w refl v
 
-pub limited : (rs : List SheetRow) (c : Terms) → Wide c → sheetVerdict rs c ≡ Settled → sheetTaken rs (c .account) + c .amount ≤ 999999999999999
+limited : (rs : List SheetRow) (c : Terms) → Wide c → sheetVerdict rs c ≡ Settled → sheetTaken rs (c .account) + c .amount ≤ 999999999999999
 limited rs c w v =
     let b = c .account in
     let own : share b c ≡ c .amount = rw (eq-eqb b b refl) in
     omega (arith, own, risen (counted rs) c b (first (answers c) (counted rs)) w refl v, sum-small b (atFirst (answers c) spend (counted rs)), length-atFirst (answers c) spend (counted rs), few rs)
+
+pub sheet-laws : Laws {S = List SheetRow} sheetVerdict sheetTaken (λ s c t. t ≡ sheetAfter s c) (λ _. []) sheetVerdict
+sheet-laws = record {
+  raises = λ s t c w d v a _. ap (λ (l : List SheetRow). sheetTaken l a) d ∙ moved s c a w v;
+  figures = λ s t c w d n a _. ap (λ (l : List SheetRow). sheetTaken l a) (d ∙ same-rows s c n);
+  verdicts = λ s t c w d n x _. ap (λ (l : List SheetRow). sheetVerdict l x) (d ∙ same-rows s c n);
+  limit = λ s c w v. limited s c w v;
+  highest = λ s c w. refl;
+}
 
 module _ (rs : List SheetRow) (t c : Terms) (told : t ≡ c) where
   pub missing : None ≡ place (answers t) 0 (counted rs) → (Other ≡ sheetVerdict rs c) × (rs ≡ sheetAfter rs c)

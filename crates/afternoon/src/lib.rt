@@ -1,0 +1,2 @@
+// An afternoon of calls at a bank: the state that the program replay holds, the commands it reads, and what each command does.
+pub mod books;
