@@ -1,3 +1,4 @@
 pub mod Books
 pub mod Desk
+pub mod Performed
 pub mod Staff

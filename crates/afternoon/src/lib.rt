@@ -2,4 +2,5 @@
 pub mod books;
 pub mod commands;
 pub mod desk;
+pub mod performing;
 pub mod staff;
