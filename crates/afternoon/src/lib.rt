@@ -3,4 +3,5 @@ pub mod books;
 pub mod commands;
 pub mod desk;
 pub mod performing;
+pub mod script;
 pub mod staff;
