@@ -4,12 +4,14 @@
 mod cases;
 mod damage;
 mod format;
+mod grouped;
 mod random;
 mod raw;
 mod records;
 
 use cases::{Family, Lawful, Settings, FAMILIES};
 use format::RECORD_LENGTH;
+use grouped::grouped;
 use std::process::ExitCode;
 
 extern "C" {
@@ -245,19 +247,6 @@ fn record_in_hex(bare: &[u8], place: u64) -> String {
     for (line, bytes) in record.chunks(20).enumerate() {
         let hex: Vec<String> = bytes.iter().map(|byte| format!("{byte:02X}")).collect();
         text += &format!("    column {:3}: {}\n", line * 20 + 1, hex.join(" "));
-    }
-    text
-}
-
-/// A number with a comma before every three digits.
-fn grouped(number: u64) -> String {
-    let digits = number.to_string();
-    let mut text = String::new();
-    for (place, digit) in digits.chars().enumerate() {
-        if place > 0 && (digits.len() - place).is_multiple_of(3) {
-            text.push(',');
-        }
-        text.push(digit);
     }
     text
 }

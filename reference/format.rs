@@ -21,7 +21,7 @@ pub struct Denial {
 }
 
 impl Denial {
-    const fn without_place(number: u64) -> Denial {
+    pub const fn without_place(number: u64) -> Denial {
         Denial {
             number,
             record: 0,
