@@ -58,7 +58,9 @@ pub fn strike_in(register: &mut Register, entry: Entry) -> Option<Result<(), Den
             _ => None,
         },
         Register::BillerStop(table) => match entry {
-            Entry::Three(biller, high, low) => Some(table.strike(&CustomerRow { biller, high, low })),
+            Entry::Three(biller, high, low) => Some(table.strike(
+                &CustomerRow { biller, high, low },
+            )),
             _ => None,
         },
         Register::Mandates(table) => match entry {

@@ -18,6 +18,6 @@ returns c =
     let were = c .as-mut-slice .ensures .value ∙ ap vec-items (apart .1) in
     record {
       desk = both _ _ _ _ (ap rowsOf (again .0 ∙ apart .0))
-        (ap (λ v. listings (vec-items v)) (again .1) ∙ ap listings items ∙ c .list-at-answer .ensures .rows ∙ ap (λ (rs : List Register). registersChanged (λ l. listIn l (c .args .entry)) (c .args .number) (listings rs)) were);
+          (ap (λ v. listings (vec-items v)) (again .1) ∙ ap listings items ∙ c .list-at-answer .ensures .rows ∙ ap (λ (rs : List Register). registersChanged (λ l. listIn l (c .args .entry)) (c .args .number) (listings rs)) were);
       answer = c .list-at-answer .ensures .answer ∙ ap (λ (rs : List Register). changeAnswer (λ l. listIn l (c .args .entry)) (c .args .number) (listings rs)) were;
     }
