@@ -1,7 +1,7 @@
 -- What the steps of the desk make of its registers and rows.
 use mathlib.Core.Path.{_≡_, refl, sym, ap, subst, _∙_}
 use mathlib.Core.Bool.{Bool, true, false, cond}
-use mathlib.Core.List.{List, [], _∷_, map}
+use mathlib.Core.List.{List, [], _∷_}
 use Prim.Native.Nat.{ℕ, _<_}
 use native.Mathlib.Omega.{arith}
 use lib.ListN.{length, getD, set}
@@ -22,9 +22,9 @@ use Rattle.registers.specs.declared.register.Register.{Register}
 use Rattle.registers.specs.Listings.{Listing, listing, holders}
 use Rattle.registers.specs.Piles.{listings, objection, verdictAbove, after}
 use Rattle.afternoon.specs.declared.commands.Sort.{Sort}
-use Rattle.afternoon.specs.Books.{Rows, booksVerdict, booksAfter}
+use Rattle.books.specs.Books.{Rows, booksVerdict, booksAfter}
 use Rattle.afternoon.specs.Staff.{Changed, answerOf, afterwards}
-use Rattle.afternoon.specs.Desk.{Standing, stands, emptyOf, putOn, placeOf, registerAt, registersChanged, changeAnswer, asked, passedDown, debited}
+use Rattle.afternoon.specs.Desk.{stands, emptyOf, putOn, placeOf, registerAt, registersChanged, changeAnswer, asked, passedDown, debited}
 
 pub both : (r q : Rows) (ls ks : List Listing) → r ≡ q → ls ≡ ks → stands r ls ≡ stands q ks
 both r q ls ks e f = ap (λ (x : Rows). stands x ls) e ∙ ap (λ (x : List Listing). stands q x) f

@@ -1,5 +1,5 @@
 -- What the program holds, and what each step makes of it: the rows of ledger and sheet, and the registers above, uppermost first.
-use mathlib.Core.Bool.{Bool, true, false, cond, _&&_}
+use mathlib.Core.Bool.{Bool, cond, _&&_}
 use mathlib.Core.List.{List, [], _∷_}
 use Prim.Native.Nat.{ℕ, _-_}
 use lib.Dec.{leb}
@@ -19,11 +19,11 @@ use Rattle.hosts.specs.declared.sheet.SheetRow.{SheetRow}
 use Rattle.hosts.specs.Firsts.{either}
 use Rattle.registers.specs.Listings.{Listing, holders, billers, mandates, ceilings}
 use Rattle.registers.specs.Piles.{listings, objection, verdictAbove, after}
-use Rattle.afternoon.specs.declared.books.Bottom.{Bottom}
+use Rattle.books.specs.declared.Bottom.{Bottom}
 use Rattle.afternoon.specs.declared.commands.Sort.{Sort}
 use Rattle.afternoon.specs.declared.commands.Sort.the-variants.{Holder, Biller, Mandates, Ceiling}
 use Rattle.afternoon.specs.declared.desk.Desk.{Desk}
-use Rattle.afternoon.specs.Books.{Rows, rowsOf, noRows, withLedgerRow, withSheetRow, withBottom, booksVerdict, booksTaken, booksAfter}
+use Rattle.books.specs.Books.{Rows, rowsOf, noRows, withLedgerRow, withSheetRow, withBottom, booksVerdict, booksTaken, booksAfter}
 use Rattle.afternoon.specs.Staff.{Changed, answerOf, afterwards}
 
 pub record Standing : Type 0 where

@@ -1,4 +1,3 @@
-pub mod Books
 pub mod Desk
 pub mod Performed
 pub mod Staff

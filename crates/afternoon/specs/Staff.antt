@@ -6,11 +6,11 @@ use Rattle.std.specs.declared.option.Option.{Option}
 use Rattle.std.specs.declared.option.Option.the-variants.{Some, None}
 use Rattle.std.specs.declared.result.Result.{Result}
 use Rattle.denials.specs.declared.Denial.{Denial}
-use Rattle.registers.specs.declared.rows.AccountRow.{AccountRow}
-use Rattle.registers.specs.declared.rows.CustomerRow.{CustomerRow}
-use Rattle.registers.specs.declared.rows.CeilingRow.{CeilingRow}
-use Rattle.registers.specs.Rows.{sameAccount, wideAccount, sameCustomer, wideCustomer, sameBiller, wideBiller, wideCeiling}
-use Rattle.registers.specs.Tables.{listAnswer, listed, strikeAnswer, struck}
+use Rattle.tables.specs.declared.rows.AccountRow.{AccountRow}
+use Rattle.tables.specs.declared.rows.CustomerRow.{CustomerRow}
+use Rattle.tables.specs.declared.rows.CeilingRow.{CeilingRow}
+use Rattle.tables.specs.Rows.{sameAccount, wideAccount, sameCustomer, wideCustomer, sameBiller, wideBiller, wideCeiling}
+use Rattle.tables.specs.Tables.{listAnswer, listed, strikeAnswer, struck}
 use Rattle.registers.specs.Listings.{Listing, holders, billers, mandates, ceilings}
 use Rattle.afternoon.specs.declared.staff.Entry.{Entry}
 use Rattle.afternoon.specs.declared.staff.Entry.the-variants.{One, Two, Three}

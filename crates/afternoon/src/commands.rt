@@ -1,6 +1,6 @@
 // The commands of a script, and the answers to them.
-use crate::books::Bottom;
 use crate::staff::Entry;
+use books::Bottom;
 use claims::codes::ResultCode;
 use claims::terms::Terms;
 use denials::Denial;

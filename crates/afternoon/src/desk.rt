@@ -3,7 +3,7 @@
 ghost use mathlib.Core.Path.{_≡_};
 ghost use mathlib.Core.Bool.{cond};
 ghost use lib.ListN.{length};
-ghost use Prim.Native.Nat.{ℕ, _<_};
+ghost use Prim.Native.Nat.{_<_};
 ghost use Rattle.std.specs.Results.{isOk};
 ghost use Rattle.std.specs.Slices.{found};
 ghost use Rattle.std.specs.Vec.{made};
@@ -11,13 +11,13 @@ ghost use Rattle.registers.specs.Listings.{listing};
 ghost use Rattle.registers.specs.Piles.{listings};
 ghost use Rattle.afternoon.specs.Desk.{standing, atFirst, addedToLedger, addedToSheet, usedBottom, emptyOf, putOn, takenOff, anyRegister, placeOf, registersChanged, changeAnswer, changedAt, asked, debited, told};
 ghost use Rattle.afternoon.specs.Staff.{listIn, strikeIn};
-use crate::books::Books;
-use crate::books::BooksHost;
-use crate::books::Bottom;
 use crate::commands::Sort;
 use crate::staff::Entry;
 use crate::staff::list_in;
 use crate::staff::strike_in;
+use books::Books;
+use books::BooksHost;
+use books::Bottom;
 use claims::claim::Claim;
 use claims::codes::ResultCode;
 use claims::terms::Terms;
@@ -28,12 +28,12 @@ use hosts::sheet::SheetRow;
 use registers::pile::Pile;
 use registers::pile::PileHost;
 use registers::register::Register;
-use registers::rows::AccountRowKey;
-use registers::rows::CeilingRowKey;
-use registers::rows::CustomerRowKey;
-use registers::table::Table;
 use std::alloc::AllocError;
 use std::alloc::Global;
+use tables::rows::AccountRowKey;
+use tables::rows::CeilingRowKey;
+use tables::rows::CustomerRowKey;
+use tables::table::Table;
 
 #[derive(Drop)]
 pub struct Desk {

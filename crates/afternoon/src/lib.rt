@@ -1,7 +1,5 @@
 // An afternoon of calls at a bank: the state that the program replay holds, the commands it reads, and what each command does.
-pub mod books;
 pub mod commands;
 pub mod desk;
 pub mod performing;
-pub mod script;
 pub mod staff;

@@ -4,12 +4,12 @@ ghost use Rattle.registers.specs.Listings.{listing};
 ghost use Rattle.afternoon.specs.Staff.{listIn, strikeIn, answerOf, afterwards};
 use denials::Denial;
 use registers::register::Register;
-use registers::rows::AccountRow;
-use registers::rows::AccountRowKey;
-use registers::rows::CeilingRow;
-use registers::rows::CeilingRowKey;
-use registers::rows::CustomerRow;
-use registers::rows::CustomerRowKey;
+use tables::rows::AccountRow;
+use tables::rows::AccountRowKey;
+use tables::rows::CeilingRow;
+use tables::rows::CeilingRowKey;
+use tables::rows::CustomerRow;
+use tables::rows::CustomerRowKey;
 
 /// The numbers given for a row, biller code first.
 #[derive(Clone, Copy)]

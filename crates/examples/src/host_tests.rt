@@ -21,15 +21,15 @@ use registers::above::AboveHost;
 use registers::pile::Pile;
 use registers::pile::PileHost;
 use registers::register::Register;
-use registers::rows::AccountRow;
-use registers::rows::AccountRowKey;
-use registers::rows::CeilingRow;
-use registers::rows::CeilingRowKey;
-use registers::rows::CustomerRow;
-use registers::rows::CustomerRowKey;
-use registers::table::Table;
 use std::alloc::Global;
 use std::test::*;
+use tables::rows::AccountRow;
+use tables::rows::AccountRowKey;
+use tables::rows::CeilingRow;
+use tables::rows::CeilingRowKey;
+use tables::rows::CustomerRow;
+use tables::rows::CustomerRowKey;
+use tables::table::Table;
 
 const BILLER: u64 = 123;
 

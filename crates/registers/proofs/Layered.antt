@@ -9,7 +9,8 @@ use Rattle.claims.proofs.Settling.{not-settled}
 use Rattle.hosts.specs.declared.host.Host.{Ghosts}
 use Rattle.hosts.proofs.Layers.{Laws, layered}
 use Rattle.registers.specs.Listings.{Listing, objects, fall}
-use Rattle.registers.specs.Piles.{verdictAbove, figuresAbove, registersAbove, groundAbove, after, Debited}
+use Rattle.tables.specs.Figures.{figuresAbove}
+use Rattle.registers.specs.Piles.{verdictAbove, registersAbove, groundAbove, after, Debited}
 use Rattle.registers.proofs.Objections.{never-settles}
 
 -- nothing falls unless the host below settled

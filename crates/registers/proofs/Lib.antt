@@ -1,4 +1,3 @@
 pub mod Layered
 pub mod Objections
 pub mod Stacking
-pub mod Tabling

@@ -12,9 +12,10 @@ use Rattle.claims.specs.declared.codes.ResultCode.{ResultCode}
 use Rattle.claims.specs.declared.codes.ResultCode.the-variants.{Settled, StoppedByHolder, NoMandate, StoppedByBiller, Other}
 use Rattle.claims.specs.Codes.{numberOf}
 use Rattle.hosts.specs.Firsts.{either}
-use Rattle.registers.specs.Rows.{sameAccount, sameCustomer, accountRow, customerRow}
-use Rattle.registers.specs.Tables.{isListed}
-use Rattle.registers.specs.Listings.{Listing, holders, billers, mandates, ceilings, leftTo, under, objects}
+use Rattle.tables.specs.Rows.{sameAccount, sameCustomer, accountRow, customerRow}
+use Rattle.tables.specs.Tables.{isListed}
+use Rattle.tables.specs.Ceilings.{leftTo}
+use Rattle.registers.specs.Listings.{Listing, holders, billers, mandates, ceilings, under, objects}
 use Rattle.registers.specs.Piles.{objection}
 
 -- a code, other than settled, or none

@@ -1,4 +1,2 @@
 pub mod Listings
 pub mod Piles
-pub mod Rows
-pub mod Tables

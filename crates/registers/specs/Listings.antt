@@ -1,22 +1,23 @@
 -- A register by what it lists: to which claims it objects and with which code, and how a ceiling falls.
-use mathlib.Core.Bool.{Bool, cond}
+use mathlib.Core.Bool.{cond}
 use mathlib.Core.List.{List}
 use Prim.Native.Nat.{ℕ, _-_}
-use lib.Dec.{eqb, ltb}
+use lib.Dec.{ltb}
 use Rattle.std.specs.Of.Vec.{vec-items}
 use Rattle.std.specs.declared.option.Option.{Option}
 use Rattle.std.specs.declared.option.Option.the-variants.{Some, None}
 use Rattle.claims.specs.declared.terms.Terms.{Terms}
 use Rattle.claims.specs.declared.codes.ResultCode.{ResultCode}
 use Rattle.claims.specs.declared.codes.ResultCode.the-variants.{StoppedByHolder, NoMandate, StoppedByBiller, Other}
-use Rattle.hosts.specs.Firsts.{first, atFirst, either}
-use Rattle.registers.specs.declared.rows.AccountRow.{AccountRow}
-use Rattle.registers.specs.declared.rows.CustomerRow.{CustomerRow}
-use Rattle.registers.specs.declared.rows.CeilingRow.{CeilingRow}
+use Rattle.hosts.specs.Firsts.{atFirst}
+use Rattle.tables.specs.declared.rows.AccountRow.{AccountRow}
+use Rattle.tables.specs.declared.rows.CustomerRow.{CustomerRow}
+use Rattle.tables.specs.declared.rows.CeilingRow.{CeilingRow}
 use Rattle.registers.specs.declared.register.Register.{Register}
 use Rattle.registers.specs.declared.register.Register.the-variants.{HolderStop, BillerStop, Mandates, Ceiling}
-use Rattle.registers.specs.Rows.{sameAccount, sameCustomer, accountRow, customerRow}
-use Rattle.registers.specs.Tables.{isListed}
+use Rattle.tables.specs.Rows.{sameAccount, sameCustomer, accountRow, customerRow}
+use Rattle.tables.specs.Tables.{isListed}
+use Rattle.tables.specs.Ceilings.{ofBiller, leftTo, lowered}
 
 pub data Listing : Type 0 where
   holders : List AccountRow → Listing
@@ -30,13 +31,6 @@ listing (BillerStop t) = billers (vec-items (t .rows))
 listing (Mandates t) = mandates (vec-items (t .rows))
 listing (Ceiling t) = ceilings (vec-items (t .rows))
 
-abbrev pub ofBiller : ℕ → CeilingRow → Bool
-ofBiller b r = eqb b (r .biller)
-
--- the amount left to a biller, if it has a row
-abbrev pub leftTo : ℕ → List CeilingRow → Option ℕ
-leftTo b rs = either (first (ofBiller b) rs) None (λ r. Some (r .left))
-
 -- a ceiling objects if less is left than the amount; without one there is no objection
 abbrev pub under : ℕ → Option ℕ → Option ResultCode
 under m None = None
@@ -48,9 +42,6 @@ objects (holders rs) c = cond (isListed sameAccount rs (accountRow c)) (Some Sto
 objects (billers rs) c = cond (isListed sameCustomer rs (customerRow c)) (Some StoppedByBiller) None
 objects (mandates rs) c = cond (isListed sameAccount rs (accountRow c)) None (Some NoMandate)
 objects (ceilings rs) c = under (c .amount) (leftTo (c .biller) rs)
-
-abbrev pub lowered : ℕ → CeilingRow → CeilingRow
-lowered m r = record { biller = r .biller; left = r .left - m }
 
 -- a register after a claim that was settled below it: a ceiling falls
 abbrev pub fall : Terms → Listing → Listing

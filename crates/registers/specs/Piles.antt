@@ -10,6 +10,7 @@ use Rattle.claims.specs.declared.terms.Terms.{Terms}
 use Rattle.claims.specs.declared.codes.ResultCode.{ResultCode}
 use Rattle.claims.specs.Codes.{settles}
 use Rattle.hosts.specs.Meaning.{uppermost}
+use Rattle.tables.specs.Figures.{figuresAbove}
 use Rattle.registers.specs.declared.register.Register.{Register}
 use Rattle.registers.specs.Listings.{Listing, listing, objects, fall}
 
@@ -23,10 +24,6 @@ objection ls c = uppermost (map objects ls) c
 -- that objection, or else what the host below says
 abbrev pub verdictAbove : List Listing → Terms → ResultCode → ResultCode
 verdictAbove ls c below = valueOr (objection ls c) below
-
--- the taken figures above whatever is listed are those below
-abbrev pub figuresAbove : {X : Type 0} → X → (ℕ → ℕ) → ℕ → ℕ
-figuresAbove listed below = below
 
 -- each register shows itself, above those that the host below shows
 abbrev pub registersAbove : List Listing → List (Terms → Option ResultCode) → List (Terms → Option ResultCode)

@@ -2,7 +2,8 @@
 ghost use mathlib.Core.Path.{_≡_};
 ghost use mathlib.Core.List.{[], _∷_};
 ghost use Rattle.registers.specs.Listings.{listing, objects};
-ghost use Rattle.registers.specs.Piles.{verdictAbove, figuresAbove, registersAbove, groundAbove, Debited};
+ghost use Rattle.tables.specs.Figures.{figuresAbove};
+ghost use Rattle.registers.specs.Piles.{verdictAbove, registersAbove, groundAbove, Debited};
 use crate::register::Register;
 use claims::claim::Claim;
 use claims::codes::ResultCode;

@@ -2,5 +2,3 @@
 pub mod above;
 pub mod pile;
 pub mod register;
-pub mod rows;
-pub mod table;

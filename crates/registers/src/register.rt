@@ -1,15 +1,15 @@
 // One register of any of the four sorts: its objection to a claim, and the fall of a ceiling.
 ghost use mathlib.Core.Path.{_≡_};
 ghost use Rattle.registers.specs.Listings.{listing, objects, fall};
-use crate::rows::AccountRow;
-use crate::rows::AccountRowKey;
-use crate::rows::CeilingRow;
-use crate::rows::CeilingRowKey;
-use crate::rows::CustomerRow;
-use crate::rows::CustomerRowKey;
-use crate::table::Table;
 use claims::codes::ResultCode;
 use claims::terms::Terms;
+use tables::rows::AccountRow;
+use tables::rows::AccountRowKey;
+use tables::rows::CeilingRow;
+use tables::rows::CeilingRowKey;
+use tables::rows::CustomerRow;
+use tables::rows::CustomerRowKey;
+use tables::table::Table;
 
 #[derive(Drop)]
 pub enum Register {

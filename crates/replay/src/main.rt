@@ -1,12 +1,13 @@
 // Reads SCRIPT.TXT in the working directory, a list of commands on hosts and registers, and prints an answer for each.
 mod answers;
+mod script;
 
 use afternoon::desk::Desk;
 use afternoon::performing::perform;
-use afternoon::script::Line;
-use afternoon::script::read_line;
 use answers::print_answer;
 use answers::print_bad_line;
+use script::Line;
+use script::read_line;
 use std::fs;
 use std::io;
 use std::io::ErrorKind;

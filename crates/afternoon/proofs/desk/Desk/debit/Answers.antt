@@ -1,6 +1,6 @@
 use Rattle.std.specs.Of.Vec.{vec-items}
 use Rattle.registers.specs.Piles.{listings}
-use Rattle.afternoon.specs.Books.{rowsOf}
+use Rattle.books.specs.Books.{rowsOf}
 use Rattle.afternoon.proofs.Steps as steps
 use Rattle.afternoon.proofs.desk.Desk.debit.Needs as need
 

@@ -3,7 +3,7 @@ use lib.ListN.{length}
 use Rattle.std.specs.Of.Vec.{vec-items}
 use Rattle.std.proofs.shelf.Lists.{length-map}
 use Rattle.registers.specs.Listings.{listing}
-use Rattle.afternoon.specs.Books.{rowsOf}
+use Rattle.books.specs.Books.{rowsOf}
 use Rattle.afternoon.proofs.Steps.{put-on}
 use Rattle.afternoon.proofs.desk.Desk.put.Needs as need
 

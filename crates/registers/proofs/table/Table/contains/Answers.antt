@@ -1,6 +1,0 @@
-use mathlib.Core.Path.{_∙_}
-use Rattle.registers.proofs.Tabling as tabling
-use Rattle.registers.proofs.table.Table.contains.Needs as need
-
-pub returns : need.returns
-returns g c = c .is-some .ensures ∙ tabling.listed-there (g .R·Row .same) (g .R·Row .wide) _ _ _ (c .position .ensures .value)

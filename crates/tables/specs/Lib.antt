@@ -1,0 +1,4 @@
+pub mod Ceilings
+pub mod Figures
+pub mod Rows
+pub mod Tables
