@@ -1,6 +1,6 @@
 -- What each command of a script makes of what the program holds, and its answer.
-use mathlib.Core.Bool.{cond}
-use Prim.Native.Nat.{ℕ, _+_}
+use mathlib.Core.Bool.{Bool, cond}
+use Prim.Native.Nat.{_+_}
 use lib.ListN.{length}
 use Rattle.std.specs.declared.option.Option.{Option}
 use Rattle.std.specs.declared.option.Option.the-variants.{Some, None}
@@ -8,7 +8,6 @@ use Rattle.std.specs.declared.result.Result.{Result}
 use Rattle.std.specs.declared.result.Result.the-variants.{Ok, Err}
 use Rattle.denials.specs.declared.Denial.{Denial}
 use Rattle.claims.specs.declared.codes.ResultCode.{ResultCode}
-use Rattle.hosts.specs.declared.ledger.LedgerRow.{LedgerRow}
 use Rattle.afternoon.specs.declared.commands.Command.{Command}
 use Rattle.afternoon.specs.declared.commands.Command.the-variants as command
 use Rattle.afternoon.specs.declared.commands.Answer.{Answer}
@@ -16,12 +15,8 @@ use Rattle.afternoon.specs.declared.commands.Answer.the-variants as answer
 use Rattle.afternoon.specs.Staff.{listIn, strikeIn}
 use Rattle.afternoon.specs.Desk.{Standing, addedToLedger, addedToSheet, usedBottom, putOn, takenOff, anyRegister, changedAt, changeAnswer, asked, debited, told}
 
--- a row as the command gives it: nothing is taken yet
-abbrev pub newRow : ℕ → ℕ → LedgerRow
-newRow a b = record { account = a; balance = b; taken = 0 }
-
 abbrev pub performed : Standing → Command → Standing
-performed s (command.Ledger a b) = addedToLedger (newRow a b) s
+performed s (command.Ledger row) = addedToLedger row s
 performed s (command.Sheet row) = addedToSheet row s
 performed s (command.Use u) = usedBottom u s
 performed s (command.Put k) = putOn k s
@@ -31,6 +26,9 @@ performed s (command.Strike n e) = changedAt (λ l. strikeIn l e) n s
 performed s (command.Inquire c) = s
 performed s (command.Debit c) = debited c s
 performed s (command.Taken a) = s
+
+abbrev pub offTold : Bool → Answer
+offTold b = cond b answer.Done answer.Absent
 
 abbrev pub changeTold : Option (Result (Unit {0}) Denial) → Answer
 changeTold None = answer.Absent
@@ -42,11 +40,11 @@ codeTold (Ok k) = answer.Code k
 codeTold (Err d) = answer.Denied d
 
 abbrev pub answerTo : Standing → Command → Answer
-answerTo s (command.Ledger a b) = answer.Done
+answerTo s (command.Ledger row) = answer.Done
 answerTo s (command.Sheet row) = answer.Done
 answerTo s (command.Use u) = answer.Done
 answerTo s (command.Put k) = answer.Register (length (s .registers) + 1)
-answerTo s command.Off = cond (anyRegister s) answer.Done answer.Absent
+answerTo s command.Off = offTold (anyRegister s)
 answerTo s (command.List n e) = changeTold (changeAnswer (λ l. listIn l e) n (s .registers))
 answerTo s (command.Strike n e) = changeTold (changeAnswer (λ l. strikeIn l e) n (s .registers))
 answerTo s (command.Inquire c) = codeTold (asked c s)

@@ -4,6 +4,7 @@ use books::Bottom;
 use claims::codes::ResultCode;
 use claims::terms::Terms;
 use denials::Denial;
+use hosts::ledger::LedgerRow;
 use hosts::sheet::SheetRow;
 
 /// The four sorts of register.
@@ -18,7 +19,7 @@ pub enum Sort {
 #[derive(Clone, Copy)]
 pub enum Command {
     /// Adds a ledger row.
-    Ledger { account: u64, balance: u64 },
+    Ledger(LedgerRow),
     /// Adds a sheet row.
     Sheet(SheetRow),
     /// Makes the ledger or the sheet the bottom host.

@@ -2,16 +2,25 @@
 ghost use mathlib.Core.Path.{_≡_};
 ghost use Rattle.std.specs.Vec.{made};
 ghost use Rattle.afternoon.specs.Desk.{standing};
-ghost use Rattle.afternoon.specs.Performed.{performed, changeTold, codeTold, answerTo};
+ghost use Rattle.afternoon.specs.Performed.{performed, offTold, changeTold, codeTold, answerTo};
 use crate::commands::Answer;
 use crate::commands::Command;
 use crate::commands::Sort;
 use crate::desk::Desk;
 use claims::codes::ResultCode;
 use denials::Denial;
-use hosts::ledger::LedgerRow;
 use std::alloc::AllocError;
 use std::alloc::Global;
+
+fn off_told(any: bool) -> Answer
+    ensures { λ r. ⌜ r ≡ offTold any ⌝ }
+{
+    if any {
+        Answer::Done
+    } else {
+        Answer::Absent
+    }
+}
 
 fn change_told(answer: Option<Result<(), Denial>>) -> Answer
     ensures { λ r. ⌜ r ≡ changeTold answer ⌝ }
@@ -38,15 +47,7 @@ pub fn perform(desk: Desk, heap: Global, command: Command) -> Result<(Desk, Answ
 {
     let mut desk = desk;
     match command {
-        Command::Ledger { account, balance } => {
-            let taken = 0;
-            let row = LedgerRow {
-                account,
-                balance,
-                taken,
-            };
-            Ok((desk.add_to_ledger(row)?, Answer::Done))
-        }
+        Command::Ledger(row) => Ok((desk.add_to_ledger(row)?, Answer::Done)),
         Command::Sheet(row) => Ok((desk.add_to_sheet(row)?, Answer::Done)),
         Command::Use(bottom) => Ok((desk.take_into_use(bottom), Answer::Done)),
         Command::Put(sort) => {
@@ -54,11 +55,7 @@ pub fn perform(desk: Desk, heap: Global, command: Command) -> Result<(Desk, Answ
             Ok((desk, Answer::Register(number)))
         }
         Command::Off => {
-            let answer = if desk.take_off() {
-                Answer::Done
-            } else {
-                Answer::Absent
-            };
+            let answer = off_told(desk.take_off());
             Ok((desk, answer))
         }
         Command::List { number, entry } => {

@@ -35,6 +35,10 @@ const BILLER: u64 = 123;
 
 const ACCOUNT: u64 = 200_310_000_007;
 
+// The largest number of ten digits.
+const NINES: u64 = 9_999_999_999;
+
+// The largest of fifteen.
 const LIMIT: u64 = 999_999_999_999_999;
 
 // A claim of this amount; customer number 41.
@@ -48,11 +52,16 @@ fn claim_of(amount: u64) -> Result<Claim, Denial> {
     })
 }
 
-fn made(terms: Terms) -> Result<(), Denial> {
-    match Claim::new(terms) {
-        Ok(_) => Ok(()),
-        Err(denial) => Err(denial),
-    }
+// Whether a claim can be made of these numbers.
+fn made(biller: u64, account: u64, high: u64, low: u64, amount: u64) -> Result<(), Denial> {
+    Claim::new(Terms {
+        biller,
+        account,
+        high,
+        low,
+        amount,
+    })?;
+    Ok(())
 }
 
 fn ledger_of(heap: Global, balance: u64, taken: u64) -> Result<Ledger, Fail> {
@@ -140,59 +149,16 @@ fn a_taken_figure_stops_at_its_limit(rt: LibcRuntime) -> Result<(), Fail> {
 }
 
 #[test]
-fn a_claim_keeps_its_widths(rt: LibcRuntime) -> Result<(), Fail> {
-    let _ = rt;
-    let widest = Terms {
-        biller: 9_999_999_999,
-        account: LIMIT,
-        high: 9_999_999_999,
-        low: 9_999_999_999,
-        amount: 9_999_999_999,
-    };
-    check_eq(made(widest), Ok(()))?;
+fn a_claim_keeps_its_widths(_rt: LibcRuntime) -> Result<(), Fail> {
     let denied = Err(Denial::OutsideWidth);
-    check_eq(
-        made(Terms {
-            biller: 10_000_000_000,
-            ..widest
-        }),
-        denied,
-    )?;
-    check_eq(
-        made(Terms {
-            account: LIMIT + 1,
-            ..widest
-        }),
-        denied,
-    )?;
-    check_eq(
-        made(Terms {
-            high: 10_000_000_000,
-            ..widest
-        }),
-        denied,
-    )?;
-    check_eq(
-        made(Terms {
-            low: 10_000_000_000,
-            ..widest
-        }),
-        denied,
-    )?;
-    check_eq(
-        made(Terms {
-            amount: 10_000_000_000,
-            ..widest
-        }),
-        denied,
-    )?;
-    check_eq(
-        made(Terms {
-            amount: 0,
-            ..widest
-        }),
-        denied,
-    )
+    check_eq(made(NINES, LIMIT, NINES, NINES, NINES), Ok(()))?;
+    check_eq(made(NINES + 1, LIMIT, NINES, NINES, NINES), denied)?;
+    check_eq(made(NINES, LIMIT + 1, NINES, NINES, NINES), denied)?;
+    check_eq(made(NINES, LIMIT, NINES + 1, NINES, NINES), denied)?;
+    check_eq(made(NINES, LIMIT, NINES, NINES + 1, NINES), denied)?;
+    check_eq(made(NINES, LIMIT, NINES, NINES, NINES + 1), denied)?;
+    check_eq(made(0, 0, 0, 0, 1), Ok(()))?;
+    check_eq(made(0, 0, 0, 0, 0), denied)
 }
 
 #[test]

@@ -6,6 +6,7 @@ use afternoon::commands::Sort;
 use afternoon::staff::Entry;
 use books::Bottom;
 use claims::terms::Terms;
+use hosts::ledger::LedgerRow;
 use hosts::sheet::SheetRow;
 
 /// The most numbers that a command has.
@@ -54,13 +55,7 @@ fn read_command(line: &[u8]) -> Option<Command> {
 // A command by its word and its numbers.
 fn command_with(word: &[u8], numbers: &[u64]) -> Option<Command> {
     match word {
-        b"ledger" => match numbers {
-            [account, balance] => Some(Command::Ledger {
-                account: *account,
-                balance: *balance,
-            }),
-            _ => None,
-        },
+        b"ledger" => Some(Command::Ledger(ledger_row(numbers)?)),
         b"sheet" => Some(Command::Sheet(sheet_row(numbers)?)),
         b"list" => match numbers {
             [number, biller, second] => Some(Command::List {
@@ -95,6 +90,18 @@ fn terms(numbers: &[u64]) -> Option<Terms> {
             high: *high,
             low: *low,
             amount: *amount,
+        }),
+        _ => None,
+    }
+}
+
+// A ledger row from which nothing has been taken yet.
+fn ledger_row(numbers: &[u64]) -> Option<LedgerRow> {
+    match numbers {
+        [account, balance] => Some(LedgerRow {
+            account: *account,
+            balance: *balance,
+            taken: 0,
         }),
         _ => None,
     }
