@@ -1,5 +1,5 @@
 -- What each command of a script makes of what the program holds, and its answer.
-use mathlib.Core.Bool.{Bool, cond}
+use mathlib.Core.Bool.{Bool, true, false, cond}
 use Prim.Native.Nat.{_+_}
 use lib.ListN.{length}
 use Rattle.std.specs.declared.option.Option.{Option}
@@ -14,6 +14,19 @@ use Rattle.afternoon.specs.declared.commands.Answer.{Answer}
 use Rattle.afternoon.specs.declared.commands.Answer.the-variants as answer
 use Rattle.afternoon.specs.Staff.{listIn, strikeIn}
 use Rattle.afternoon.specs.Desk.{Standing, addedToLedger, addedToSheet, usedBottom, putOn, takenOff, anyRegister, changedAt, changeAnswer, asked, debited, told}
+
+-- the commands that add a row or a register
+abbrev pub needsMemory : Command → Bool
+needsMemory (command.Ledger row) = true
+needsMemory (command.Sheet row) = true
+needsMemory (command.Use u) = false
+needsMemory (command.Put k) = true
+needsMemory command.Off = false
+needsMemory (command.List n e) = false
+needsMemory (command.Strike n e) = false
+needsMemory (command.Inquire c) = false
+needsMemory (command.Debit c) = false
+needsMemory (command.Taken a) = false
 
 abbrev pub performed : Standing → Command → Standing
 performed s (command.Ledger row) = addedToLedger row s

@@ -1,11 +1,12 @@
 // A command performed: what the desk holds afterwards, and the answer.
 ghost use mathlib.Core.Path.{_≡_};
+ghost use mathlib.Core.Bool.{true, false};
+ghost use Rattle.std.specs.Results.{isOk};
 ghost use Rattle.std.specs.Vec.{made};
 ghost use Rattle.afternoon.specs.Desk.{standing};
-ghost use Rattle.afternoon.specs.Performed.{performed, offTold, changeTold, codeTold, answerTo};
+ghost use Rattle.afternoon.specs.Performed.{needsMemory, performed, offTold, changeTold, codeTold, answerTo};
 use crate::commands::Answer;
 use crate::commands::Command;
-use crate::commands::Sort;
 use crate::desk::Desk;
 use claims::codes::ResultCode;
 use denials::Denial;
@@ -15,11 +16,7 @@ use std::alloc::Global;
 fn off_told(any: bool) -> Answer
     ensures { λ r. ⌜ r ≡ offTold any ⌝ }
 {
-    if any {
-        Answer::Done
-    } else {
-        Answer::Absent
-    }
+    if any { Answer::Done } else { Answer::Absent }
 }
 
 fn change_told(answer: Option<Result<(), Denial>>) -> Answer
@@ -41,9 +38,10 @@ fn code_told(answer: Result<ResultCode, Denial>) -> Answer
     }
 }
 
-/// Performs one command.
+/// Performs one command. Only a row or a register that is added can want memory.
 pub fn perform(desk: Desk, heap: Global, command: Command) -> Result<(Desk, Answer), AllocError>
-    ensures { λ r. ⌜ made r (λ p. (standing (p .0) ≡ performed (standing desk) command) × (p .1 ≡ answerTo (standing desk) command)) ⌝ }
+    ensures done { λ r. ⌜ made r (λ p. (standing (p .0) ≡ performed (standing desk) command) × (p .1 ≡ answerTo (standing desk) command)) ⌝ }
+    ensures memory { λ r. ⌜ (needsMemory command ≡ false → isOk r ≡ true) ⌝ }
 {
     let mut desk = desk;
     match command {

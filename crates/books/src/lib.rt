@@ -3,6 +3,7 @@ ghost use mathlib.Core.Path.{_≡_};
 ghost use mathlib.Core.Bool.{cond};
 ghost use mathlib.Core.List.{[]};
 ghost use Rattle.std.specs.Results.{isOk};
+ghost use Rattle.std.specs.Vec.{refused};
 ghost use Rattle.books.specs.declared.Bottom.the-variants as bottom;
 ghost use Rattle.books.specs.Books.{rowsOf, noRows, withLedgerRow, withSheetRow, withBottom, booksVerdict, booksTaken, booksAfter};
 use claims::claim::Claim;
@@ -44,13 +45,15 @@ impl Books {
     }
 
     pub fn add_ledger_row(&mut self, row: LedgerRow) -> Result<(), Refused<LedgerRow>>
-        ensures { λ r. ⌜ rowsOf (now (self .exit)) ≡ cond (isOk r) (withLedgerRow row (rowsOf (now (self .entry)))) (rowsOf (now (self .entry))) ⌝ }
+        ensures rows { λ r. ⌜ rowsOf (now (self .exit)) ≡ cond (isOk r) (withLedgerRow row (rowsOf (now (self .entry)))) (rowsOf (now (self .entry))) ⌝ }
+        ensures refused { λ r. ⌜ refused r (λ y. y .value ≡ row) ⌝ }
     {
         self.ledger.add(row)
     }
 
     pub fn add_sheet_row(&mut self, row: SheetRow) -> Result<(), Refused<SheetRow>>
-        ensures { λ r. ⌜ rowsOf (now (self .exit)) ≡ cond (isOk r) (withSheetRow row (rowsOf (now (self .entry)))) (rowsOf (now (self .entry))) ⌝ }
+        ensures rows { λ r. ⌜ rowsOf (now (self .exit)) ≡ cond (isOk r) (withSheetRow row (rowsOf (now (self .entry)))) (rowsOf (now (self .entry))) ⌝ }
+        ensures refused { λ r. ⌜ refused r (λ y. y .value ≡ row) ⌝ }
     {
         self.sheet.add(row)
     }

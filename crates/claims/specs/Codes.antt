@@ -22,6 +22,6 @@ codeNumbered n =
     cond (eqb n 0) (Some Settled) (cond (eqb n 1) (Some ShortOfFunds) (cond (eqb n 2) (Some NoAccount) (cond (eqb n 3) (Some StoppedByHolder)
     (cond (eqb n 4) (Some NoMandate) (cond (eqb n 8) (Some StoppedByBiller) (cond (eqb n 9) (Some Other) None))))))
 
--- the code of a claim that was drawn
+-- whether the code is 0
 abbrev pub settles : ResultCode → Bool
 settles k = eqb (numberOf k) 0

@@ -1,6 +1,6 @@
 // A host from elsewhere, to show how far the interface reaches: it may refuse everything, but it may not forget what it took.
 ghost use mathlib.Core.List.{[]};
-ghost use Rattle.claims.specs.declared.codes.ResultCode.the-variants.{Settled, Other};
+ghost use Rattle.claims.specs.declared.codes.ResultCode.the-variants.{Other};
 use claims::claim::Claim;
 use claims::codes::ResultCode;
 use hosts::host::Host;

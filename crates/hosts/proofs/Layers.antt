@@ -12,14 +12,22 @@ use Rattle.claims.specs.Widths.{fifteenDigits, Wide}
 use Rattle.hosts.specs.Firsts.{either}
 use Rattle.hosts.specs.Meaning.{Settling-raises, Refusing-keeps-figures, Refusing-keeps-verdicts, Settling-within-limit, Verdict-of-the-uppermost, answered, uppermost}
 
-answered-more : (o p : Option ResultCode) (g h : ResultCode) → h ≡ valueOr p g → valueOr o h ≡ valueOr (either o p Some) g
-answered-more None p g h e = e
-answered-more (Some k) p g h e = refl
+passed-on : (o p q : Option ResultCode) → either o (either p q Some) Some ≡ either (either o p Some) q Some
+passed-on None p q = refl
+passed-on (Some k) p q = refl
 
--- the answer of registers above others
+-- the objection of registers above others
+uppermost-above : (xs ys : List (Terms → Option ResultCode)) (c : Terms) → uppermost (xs ++ ys) c ≡ either (uppermost xs c) (uppermost ys c) Some
+uppermost-above [] ys c = refl
+uppermost-above (x ∷ xs) ys c = ap (λ (o : Option ResultCode). either (x c) o Some) (uppermost-above xs ys c) ∙ passed-on (x c) (uppermost xs c) (uppermost ys c)
+
+answered-by : (o p : Option ResultCode) (g : ResultCode) → valueOr (either o p Some) g ≡ valueOr o (valueOr p g)
+answered-by None p g = refl
+answered-by (Some k) p g = refl
+
+-- and their answer
 answered-above : (xs ys : List (Terms → Option ResultCode)) (c : Terms) (g : ResultCode) → answered (xs ++ ys) c g ≡ valueOr (uppermost xs c) (answered ys c g)
-answered-above [] ys c g = refl
-answered-above (x ∷ xs) ys c g = answered-more (x c) (uppermost xs c) (answered ys c g) (answered (xs ++ ys) c g) (answered-above xs ys c g)
+answered-above xs ys c g = ap (λ (o : Option ResultCode). valueOr o g) (uppermost-above xs ys c) ∙ answered-by (uppermost xs c) (uppermost ys c) g
 
 -- the five laws together
 pub record Laws {S : Type 0} (verdict : S → Terms → ResultCode) (taken : S → ℕ → ℕ) (debits : S → Terms → S → Type 0) (registers : S → List (Terms → Option ResultCode)) (ground : S → Terms → ResultCode) : Type 0 where

@@ -21,15 +21,14 @@ figureLimit = fifteenDigits
 abbrev pub share : ℕ → Terms → ℕ
 share a c = cond (eqb (c .account) a) (c .amount) 0
 
--- the code of the uppermost register that objects, or else that of the bottom host
-abbrev pub answered : List (Terms → Option ResultCode) → Terms → ResultCode → ResultCode
-answered [] c g = g
-answered (r ∷ rs) c g = valueOr (r c) (answered rs c g)
-
 -- the objection of the uppermost register that objects
 abbrev pub uppermost : List (Terms → Option ResultCode) → Terms → Option ResultCode
 uppermost [] c = None
 uppermost (r ∷ rs) c = either (r c) (uppermost rs c) Some
+
+-- its code, or else that of the bottom host
+abbrev pub answered : List (Terms → Option ResultCode) → Terms → ResultCode → ResultCode
+answered rs c g = valueOr (uppermost rs c) g
 
 -- The laws, for whatever type of host.
 

@@ -8,10 +8,11 @@ ghost use Rattle.claims.specs.declared.codes.ResultCode.{ResultCode};
 ghost use Rattle.hosts.specs.Meaning.{Settling-raises, Refusing-keeps-figures, Refusing-keeps-verdicts, Settling-within-limit, Verdict-of-the-uppermost};
 use claims::claim::Claim;
 use claims::codes::ResultCode;
+use claims::terms::FIFTEEN_DIGITS;
 use claims::terms::Terms;
 
 /// The most that may have been taken from an account.
-pub const FIGURE_LIMIT: u64 = 999_999_999_999_999;
+pub const FIGURE_LIMIT: u64 = FIFTEEN_DIGITS;
 
 pub trait Host {
     /// What the host says of a claim with these terms.

@@ -1,11 +1,11 @@
 // The ledger: a host over rows of account, balance and taken figure. The first row with the account counts.
 ghost use mathlib.Core.Path.{_≡_};
-ghost use mathlib.Core.Bool.{cond};
+ghost use mathlib.Core.Bool.{true, cond};
 ghost use mathlib.Core.List.{[], _∷_, _++_};
 ghost use Prim.Native.Nat.{_<_, _≤_};
 ghost use Rattle.std.specs.Results.{isOk};
 ghost use Rattle.std.specs.Vec.{refused};
-ghost use Rattle.std.specs.Of.Vec.{vec-items, vec-len};
+ghost use Rattle.std.specs.Of.Vec.{vec-items, vec-len, vec-cap};
 ghost use Rattle.std.specs.Slices.{found};
 ghost use Rattle.claims.specs.declared.codes.ResultCode.the-variants.{Settled};
 ghost use Rattle.claims.specs.Widths.{tenDigits};
@@ -68,6 +68,7 @@ impl Ledger {
     pub fn add(&mut self, row: LedgerRow) -> Result<(), Refused<LedgerRow>>
         ensures rows { λ r. ⌜ vec-items (now (self .exit) .rows) ≡ cond (isOk r) (vec-items (now (self .entry) .rows) ++ row ∷ []) (vec-items (now (self .entry) .rows)) ⌝ }
         ensures refused { λ r. ⌜ refused r (λ y. y .value ≡ row) ⌝ }
+        ensures succeeds { λ r. ⌜ (vec-len (now (self .entry) .rows) < vec-cap (now (self .entry) .rows) → isOk r ≡ true) ⌝ }
     {
         self.rows.push(row)
     }

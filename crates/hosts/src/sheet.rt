@@ -1,12 +1,12 @@
 // The sheet: a host that answers from rows written beforehand. The first unspent row equal to the claim answers, and settling spends it.
 ghost use mathlib.Core.Path.{_≡_};
-ghost use mathlib.Core.Bool.{cond};
+ghost use mathlib.Core.Bool.{true, cond};
 ghost use mathlib.Core.List.{[], _∷_, _++_};
 ghost use Prim.Native.Nat.{_<_};
 ghost use lib.ListN.{length};
 ghost use Rattle.std.specs.Results.{isOk};
 ghost use Rattle.std.specs.Vec.{refused};
-ghost use Rattle.std.specs.Of.Vec.{vec-items, vec-len};
+ghost use Rattle.std.specs.Of.Vec.{vec-items, vec-len, vec-cap};
 ghost use Rattle.std.specs.Slices.{found};
 ghost use Rattle.hosts.specs.Firsts.{place};
 ghost use Rattle.hosts.specs.Sheets.{counted, answers, rowCode, figure, spend, sheetVerdict, sheetTaken, sheetAfter};
@@ -92,6 +92,7 @@ impl Sheet {
     pub fn add(&mut self, row: SheetRow) -> Result<(), Refused<SheetRow>>
         ensures rows { λ r. ⌜ vec-items (now (self .exit) .rows) ≡ cond (isOk r) (vec-items (now (self .entry) .rows) ++ row ∷ []) (vec-items (now (self .entry) .rows)) ⌝ }
         ensures refused { λ r. ⌜ refused r (λ y. y .value ≡ row) ⌝ }
+        ensures succeeds { λ r. ⌜ (vec-len (now (self .entry) .rows) < vec-cap (now (self .entry) .rows) → isOk r ≡ true) ⌝ }
     {
         self.rows.push(row)
     }

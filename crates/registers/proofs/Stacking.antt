@@ -16,7 +16,7 @@ use Rattle.claims.specs.Codes.{settles}
 use Rattle.hosts.specs.Firsts.{either}
 use Rattle.registers.specs.declared.register.Register.{Register}
 use Rattle.registers.specs.Listings.{Listing, listing, objects, fall}
-use Rattle.registers.specs.Piles.{listings, objection, after, Silent, Uppermost-objects, Or-else-the-host, Stacked-as-nested, Stopped}
+use Rattle.registers.specs.Piles.{listings, objection, after, Silent, Uppermost-objects, Or-else-the-host, Stacked-as-nested, Passed, Stopped}
 use Rattle.registers.proofs.Objections.{never-settles}
 use Rattle.registers.proofs.Layered.{stays}
 
@@ -99,6 +99,9 @@ module _ {S : Type 0} (verdict : S → Terms → ResultCode) (debits : S → Ter
   pub stopped : Stopped verdict debits
   stopped ls ls′ s s′ c k o d = let e = subst (λ (p : Option ResultCode). Cases p (debits s c s′ × (ls′ ≡ after c (verdict s c) ls)) (λ _. (ls′ ≡ ls) × (s′ ≡ s))) o d in (e .1, e .0)
 
+  pub passed : Passed verdict debits
+  passed ls ls′ s s′ c quiet d = subst (λ (p : Option ResultCode). Cases p (debits s c s′ × (ls′ ≡ after c (verdict s c) ls)) (λ _. (ls′ ≡ ls) × (s′ ≡ s))) (silent-pile ls c quiet) d
+
   module _ (l l′ : Listing) (ls ls′ : List Listing) (s s′ : S) (c : Terms) where
     -- one debit of the stacked registers, by the objections of the uppermost and of the others
     abbrev Stacked-by : Option ResultCode → Option ResultCode → Type 0
@@ -155,6 +158,7 @@ module _ {S : Type 0} (verdict : S → Terms → ResultCode) (debits : S → Ter
   pub stacked-as-nested : Stacked-as-nested verdict debits
   stacked-as-nested = record {
     verdict-same = λ l ls s c. verdict-nested (objects l c) (objection ls c) (verdict s c);
+    registers-same = λ l ls below. refl;
     debit-nested = λ l l′ ls ls′ s s′ c d. to-nested l l′ ls ls′ s s′ c (objects l c) (objection ls c) refl d;
     debit-stacked = λ l l′ ls ls′ s s′ c d. to-stacked l l′ ls ls′ s s′ c (objects l c) (objection ls c) refl d;
   }

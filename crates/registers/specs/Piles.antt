@@ -58,12 +58,18 @@ Or-else-the-host = (ls : List Listing) (c : Terms) (v : ResultCode) → Silent l
 pub record Stacked-as-nested {S : Type 0} (verdict : S → Terms → ResultCode) (debits : S → Terms → S → Type 0) : Type 0 where
   pub verdict-same : (l : Listing) (ls : List Listing) (s : S) (c : Terms) →
       verdictAbove (l ∷ ls) c (verdict s c) ≡ verdictAbove (l ∷ []) c (verdictAbove ls c (verdict s c))
+  pub registers-same : (l : Listing) (ls : List Listing) (below : List (Terms → Option ResultCode)) →
+      registersAbove (l ∷ ls) below ≡ registersAbove (l ∷ []) (registersAbove ls below)
   pub debit-nested : (l l′ : Listing) (ls ls′ : List Listing) (s s′ : S) (c : Terms) →
       Debited verdict debits (l ∷ ls) s c (l′ ∷ ls′) s′ →
       Debited {S = List Listing × S} (λ p d. verdictAbove (p .0) d (verdict (p .1) d)) (λ p d q. Debited verdict debits (p .0) (p .1) d (q .0) (q .1)) (l ∷ []) (ls, s) c (l′ ∷ []) (ls′, s′)
   pub debit-stacked : (l l′ : Listing) (ls ls′ : List Listing) (s s′ : S) (c : Terms) →
       Debited {S = List Listing × S} (λ p d. verdictAbove (p .0) d (verdict (p .1) d)) (λ p d q. Debited verdict debits (p .0) (p .1) d (q .0) (q .1)) (l ∷ []) (ls, s) c (l′ ∷ []) (ls′, s′) →
       Debited verdict debits (l ∷ ls) s c (l′ ∷ ls′) s′
+
+-- where none objects, the host below is debited once, and ceilings fall after 0 and after no other code
+abbrev pub Passed : {S : Type 0} → (S → Terms → ResultCode) → (S → Terms → S → Type 0) → Type 0
+Passed {S} verdict debits = (ls ls′ : List Listing) (s s′ : S) (c : Terms) → Silent ls c → Debited verdict debits ls s c ls′ s′ → debits s c s′ × (ls′ ≡ after c (verdict s c) ls)
 
 -- where a register objects, nothing below is debited, and no register falls
 abbrev pub Stopped : {S : Type 0} → (S → Terms → ResultCode) → (S → Terms → S → Type 0) → Type 0
@@ -72,3 +78,15 @@ Stopped {S} verdict debits = (ls ls′ : List Listing) (s s′ : S) (c : Terms) 
 -- taken figures are those of the host below
 abbrev pub Figures-of-the-bottom : {S : Type 0} → (S → ℕ → ℕ) → Type 0
 Figures-of-the-bottom {S} taken = (ls : List Listing) (s : S) (a : ℕ) → figuresAbove ls (taken s) a ≡ taken s a
+
+-- What a host with registers shows.
+
+-- each register that it holds, uppermost first, above those that the host below shows
+abbrev pub Shows-its-registers : {S : Type 0} → (S → List (Terms → Option ResultCode)) → (S → List Listing) → (S → List (Terms → Option ResultCode)) → Type 0
+Shows-its-registers {S} shown held below = (s : S) → shown s ≡ map objects (held s) ++ below s
+
+abbrev pub Shows-the-ground-below : {S : Type 0} → (S → Terms → ResultCode) → (S → Terms → ResultCode) → Type 0
+Shows-the-ground-below {S} shown below = (s : S) (c : Terms) → shown s c ≡ below s c
+
+abbrev pub Shows-the-figures-below : {S : Type 0} → (S → ℕ → ℕ) → (S → ℕ → ℕ) → Type 0
+Shows-the-figures-below {S} shown below = (s : S) (a : ℕ) → shown s a ≡ below s a

@@ -1,14 +1,15 @@
 // Registers stacked while the program runs: a host that holds a bottom host and a list of registers of any sorts.
 ghost use mathlib.Core.Path.{_≡_};
-ghost use mathlib.Core.Bool.{cond};
+ghost use mathlib.Core.Bool.{true, cond};
+ghost use Prim.Native.Nat.{_<_};
 ghost use mathlib.Core.List.{[], _∷_, _++_, map};
 ghost use Rattle.std.specs.Vec.{listOf, refused};
 ghost use Rattle.std.specs.declared.option.Option.the-variants.{None};
 ghost use Rattle.std.specs.Results.{isOk};
-ghost use Rattle.std.specs.Of.Vec.{vec-items};
+ghost use Rattle.std.specs.Of.Vec.{vec-items, vec-len, vec-cap};
 ghost use Rattle.registers.specs.Listings.{listing, objects, fall};
 ghost use Rattle.tables.specs.Figures.{figuresAbove};
-ghost use Rattle.registers.specs.Piles.{listings, objection as objectionOf, verdictAbove, registersAbove, groundAbove, Debited, Figures-of-the-bottom, Uppermost-objects, Or-else-the-host, Stacked-as-nested, Stopped};
+ghost use Rattle.registers.specs.Piles.{listings, objection as objectionOf, verdictAbove, registersAbove, groundAbove, Debited, Figures-of-the-bottom, Uppermost-objects, Or-else-the-host, Stacked-as-nested, Passed, Stopped};
 use crate::register::Register;
 use claims::claim::Claim;
 use claims::codes::ResultCode;
@@ -84,6 +85,7 @@ impl<P: Host> Pile<P> {
     pub fn put(&mut self, register: Register) -> Result<(), Refused<Register>>
         ensures piled { λ r. ⌜ vec-items (now (self .exit) .registers) ≡ cond (isOk r) (register ∷ vec-items (now (self .entry) .registers)) (vec-items (now (self .entry) .registers)) ⌝ }
         ensures refused { λ r. ⌜ refused r (λ y. y .value ≡ register) ⌝ }
+        ensures succeeds { λ r. ⌜ (vec-len (now (self .entry) .registers) < vec-cap (now (self .entry) .registers) → isOk r ≡ true) ⌝ }
         ensures below { λ _. ⌜ now (self .exit) .below ≡ now (self .entry) .below ⌝ }
         ensures uppermost { λ r. ⌜ registersAbove (listings (vec-items (now (self .exit) .registers))) (registers (now (self .exit) .below)) ≡ cond (isOk r) (objects (listing register) ∷ registersAbove (listings (vec-items (now (self .entry) .registers))) (registers (now (self .entry) .below))) (registersAbove (listings (vec-items (now (self .entry) .registers))) (registers (now (self .entry) .below))) ⌝ }
         ensures ground { λ _. ⌜ groundAbove (listings (vec-items (now (self .exit) .registers))) (ground (now (self .exit) .below)) ≡ groundAbove (listings (vec-items (now (self .entry) .registers))) (ground (now (self .entry) .below)) ⌝ }
@@ -124,6 +126,7 @@ impl<P: Host> Pile<P> {
     pub fn any_pile(&self)
         ensures uppermost { λ _. ⌜ Uppermost-objects ⌝ }
         ensures otherwise { λ _. ⌜ Or-else-the-host ⌝ }
+        ensures passed { λ _. ⌜ Passed verdict debits ⌝ }
         ensures stopped { λ _. ⌜ Stopped verdict debits ⌝ }
         ensures figures { λ _. ⌜ Figures-of-the-bottom taken ⌝ }
         ensures nested { λ _. ⌜ Stacked-as-nested verdict debits ⌝ }

@@ -1,5 +1,8 @@
 // One register of any of the four sorts: its objection to a claim, and the fall of a ceiling.
 ghost use mathlib.Core.Path.{_≡_};
+ghost use mathlib.Core.Bool.{cond};
+ghost use Rattle.std.specs.declared.option.Option.the-variants.{Some, None};
+ghost use Rattle.tables.specs.Rows.{accountRow, customerRow};
 ghost use Rattle.registers.specs.Listings.{listing, objects, fall};
 use claims::codes::ResultCode;
 use claims::terms::Terms;
@@ -23,47 +26,56 @@ pub enum Register {
     Ceiling(Table<CeilingRow>),
 }
 
+// The row that a claim would be listed under by its account.
+fn account_row(terms: Terms) -> AccountRow
+    ensures { λ r. ⌜ r ≡ accountRow terms ⌝ }
+{
+    AccountRow {
+        biller: terms.biller,
+        account: terms.account,
+    }
+}
+
+// The row that a claim would be listed under by its customer number.
+fn customer_row(terms: Terms) -> CustomerRow
+    ensures { λ r. ⌜ r ≡ customerRow terms ⌝ }
+{
+    CustomerRow {
+        biller: terms.biller,
+        high: terms.high,
+        low: terms.low,
+    }
+}
+
+fn objection_if(due: bool, code: ResultCode) -> Option<ResultCode>
+    ensures { λ r. ⌜ r ≡ cond due (Some code) None ⌝ }
+{
+    if due { Some(code) } else { None }
+}
+
 impl Register {
     /// The code with which the register objects to a claim with these terms, if it does.
     pub fn objection(&self, terms: Terms) -> Option<ResultCode>
         ensures { λ r. ⌜ r ≡ objects (listing (now (self .entry))) terms ⌝ }
     {
-        let account_row = AccountRow {
-            biller: terms.biller,
-            account: terms.account,
-        };
         match self {
             Register::HolderStop(table) => {
-                if table.contains(&account_row) {
-                    return Some(ResultCode::StoppedByHolder);
-                }
-                None
+                let listed = table.contains(&account_row(terms));
+                objection_if(listed, ResultCode::StoppedByHolder)
             }
             Register::BillerStop(table) => {
-                let customer_row = CustomerRow {
-                    biller: terms.biller,
-                    high: terms.high,
-                    low: terms.low,
-                };
-                if table.contains(&customer_row) {
-                    return Some(ResultCode::StoppedByBiller);
-                }
-                None
+                let listed = table.contains(&customer_row(terms));
+                objection_if(listed, ResultCode::StoppedByBiller)
             }
             Register::Mandates(table) => {
-                if table.contains(&account_row) {
-                    return None;
-                }
-                Some(ResultCode::NoMandate)
+                let listed = table.contains(&account_row(terms));
+                objection_if(!listed, ResultCode::NoMandate)
             }
             Register::Ceiling(table) => {
                 let Some(left) = table.left_to(terms.biller) else {
                     return None;
                 };
-                if left < terms.amount {
-                    return Some(ResultCode::Other);
-                }
-                None
+                objection_if(left < terms.amount, ResultCode::Other)
             }
         }
     }

@@ -151,7 +151,7 @@ fn first_field(line: &[u8]) -> (&[u8], Option<&[u8]>) {
 }
 
 // Reads numbers that are separated by single spaces into the front of `numbers`, and tells how many there are.
-fn read_numbers(fields: &[u8], numbers: &mut [u64; 6]) -> Option<usize>
+fn read_numbers(fields: &[u8], numbers: &mut [u64; MOST_NUMBERS]) -> Option<usize>
     ensures { λ r. ⌜ found r (λ n. n ≤ 6) ⌝ }
 {
     let mut rest = fields;

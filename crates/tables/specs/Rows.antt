@@ -28,7 +28,7 @@ wideBiller k = leb (k .biller) tenDigits
 
 -- a ceiling may be 0
 abbrev pub wideCeiling : CeilingRow → Bool
-wideCeiling k = leb (k .biller) tenDigits && leb (k .left) fifteenDigits
+wideCeiling k = wideBiller k && leb (k .left) fifteenDigits
 
 -- the rows that a claim would be listed under
 abbrev pub accountRow : Terms → AccountRow

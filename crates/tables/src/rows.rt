@@ -104,6 +104,6 @@ pub impl Row for CeilingRow as CeilingRowKey {
     }
 
     fn is_wide(&self) -> bool {
-        self.biller <= TEN_DIGITS && self.left <= FIFTEEN_DIGITS
+        self.is_wide_key() && self.left <= FIFTEEN_DIGITS
     }
 }

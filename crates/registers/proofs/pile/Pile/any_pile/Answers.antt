@@ -6,6 +6,7 @@ pub returns : need.returns
 returns g c = record {
   uppermost = stacking.uppermost-objects;
   otherwise = stacking.or-else-the-host;
+  passed = stacking.passed (g .P·Host .verdict) (g .P·Host .debits);
   stopped = stacking.stopped (g .P·Host .verdict) (g .P·Host .debits);
   figures = λ ls s a. refl;
   nested = stacking.stacked-as-nested (g .P·Host .verdict) (g .P·Host .debits);
