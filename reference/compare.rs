@@ -3,6 +3,7 @@
 
 mod cases;
 mod damage;
+mod ended;
 mod format;
 mod grouped;
 mod random;
@@ -10,6 +11,7 @@ mod raw;
 mod records;
 
 use cases::{Family, Lawful, Settings, FAMILIES};
+use ended::ended;
 use format::RECORD_LENGTH;
 use grouped::grouped;
 use std::process::ExitCode;
@@ -22,13 +24,7 @@ extern "C" {
 const DENIALS: std::ops::RangeInclusive<u64> = 11..=17;
 
 fn main() -> ExitCode {
-    match settings().and_then(|settings| compare(&settings)) {
-        Ok(()) => ExitCode::SUCCESS,
-        Err(why) => {
-            eprintln!("{why}");
-            ExitCode::FAILURE
-        }
-    }
+    ended(settings().and_then(|settings| compare(&settings)))
 }
 
 /// 40,000 random cases bring the whole above 250,000 calls in a few seconds.

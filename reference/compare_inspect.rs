@@ -1,6 +1,7 @@
 // Compares the engine's program `inspect` with the reference's on raw files, each in its own directory.
 // Arguments: the engine's program, then the reference's. tools/compare builds and runs it.
 
+mod ended;
 // Only parts of the format and of the record writer are needed here.
 #[allow(dead_code)]
 mod format;
@@ -10,6 +11,7 @@ mod raw_cases;
 #[allow(dead_code)]
 mod records;
 
+use ended::ended;
 use raw_cases::RawCase;
 use std::env;
 use std::fs;
@@ -21,13 +23,7 @@ use std::process::{self, Command, ExitCode};
 const FEWEST_CASES: usize = 150;
 
 fn main() -> ExitCode {
-    match compare() {
-        Ok(()) => ExitCode::SUCCESS,
-        Err(why) => {
-            eprintln!("{why}");
-            ExitCode::FAILURE
-        }
-    }
+    ended(compare())
 }
 
 fn compare() -> Result<(), String> {

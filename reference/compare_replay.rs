@@ -4,6 +4,7 @@
 mod afternoon;
 mod answers;
 mod commands;
+mod ended;
 mod fixed_scripts;
 // Of the file format only the denials are needed here.
 #[allow(dead_code)]
@@ -16,6 +17,7 @@ mod script_cases;
 mod script_damage;
 
 use afternoon::{replay_lines, replay_script, Answered};
+use ended::ended;
 use grouped::grouped;
 use random::Random;
 use std::env;
@@ -46,13 +48,7 @@ const KINDS: [&str; 16] = [
 ];
 
 fn main() -> ExitCode {
-    match settings().and_then(|settings| compare(&settings)) {
-        Ok(()) => ExitCode::SUCCESS,
-        Err(why) => {
-            eprintln!("{why}");
-            ExitCode::FAILURE
-        }
-    }
+    ended(settings().and_then(|settings| compare(&settings)))
 }
 
 // ---- Settings ----

@@ -1,9 +1,10 @@
 // The state that replay holds, one pile above a ledger and a sheet, and what each command does to it.
 // The steps take the pile apart where a part of it is changed, and pile it again.
 ghost use mathlib.Core.Path.{_≡_};
-ghost use mathlib.Core.Bool.{cond};
+ghost use mathlib.Core.Bool.{true, cond};
 ghost use lib.ListN.{length};
-ghost use Prim.Native.Nat.{_<_};
+ghost use Prim.Native.Nat.{ℕ, _<_};
+ghost use Rattle.std.specs.Of.Vec.{vec-len, vec-cap};
 ghost use Rattle.std.specs.Results.{isOk};
 ghost use Rattle.std.specs.Slices.{found};
 ghost use Rattle.std.specs.Vec.{made};
@@ -97,7 +98,8 @@ impl Desk {
 
     /// Adds a ledger row.
     pub fn add_to_ledger(self, row: LedgerRow) -> Result<Desk, AllocError>
-        ensures { λ r. ⌜ made r (λ d. standing d ≡ addedToLedger row (standing self)) ⌝ }
+        ensures desk { λ r. ⌜ made r (λ d. standing d ≡ addedToLedger row (standing self)) ⌝ }
+        ensures succeeds { λ r. ⌜ (vec-len (self .pile .below .ledger .rows) < vec-cap (self .pile .below .ledger .rows) → isOk r ≡ true) ⌝ }
     {
         let (mut books, registers) = self.pile.take_apart();
         match books.add_ledger_row(row) {
@@ -110,7 +112,8 @@ impl Desk {
 
     /// Adds a sheet row.
     pub fn add_to_sheet(self, row: SheetRow) -> Result<Desk, AllocError>
-        ensures { λ r. ⌜ made r (λ d. standing d ≡ addedToSheet row (standing self)) ⌝ }
+        ensures desk { λ r. ⌜ made r (λ d. standing d ≡ addedToSheet row (standing self)) ⌝ }
+        ensures succeeds { λ r. ⌜ (vec-len (self .pile .below .sheet .rows) < vec-cap (self .pile .below .sheet .rows) → isOk r ≡ true) ⌝ }
     {
         let (mut books, registers) = self.pile.take_apart();
         match books.add_sheet_row(row) {
@@ -156,6 +159,7 @@ impl Desk {
     pub fn list(self, number: u64, entry: Entry) -> (Desk, Option<Result<(), Denial>>)
         ensures desk { λ r. ⌜ standing (r .0) ≡ changedAt (λ l. listIn l entry) number (standing self) ⌝ }
         ensures answer { λ r. ⌜ r .1 ≡ changeAnswer (λ l. listIn l entry) number (standing self .registers) ⌝ }
+        ensures taken { λ r. ⌜ ((account : ℕ) → told account (standing (r .0)) ≡ told account (standing self)) ⌝ }
     {
         let (books, mut registers) = self.pile.take_apart();
         let answer = list_at(registers.as_mut_slice(), number, entry);
@@ -167,6 +171,7 @@ impl Desk {
     pub fn strike(self, number: u64, entry: Entry) -> (Desk, Option<Result<(), Denial>>)
         ensures desk { λ r. ⌜ standing (r .0) ≡ changedAt (λ l. strikeIn l entry) number (standing self) ⌝ }
         ensures answer { λ r. ⌜ r .1 ≡ changeAnswer (λ l. strikeIn l entry) number (standing self .registers) ⌝ }
+        ensures taken { λ r. ⌜ ((account : ℕ) → told account (standing (r .0)) ≡ told account (standing self)) ⌝ }
     {
         let (books, mut registers) = self.pile.take_apart();
         let answer = strike_at(registers.as_mut_slice(), number, entry);

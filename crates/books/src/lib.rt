@@ -1,7 +1,9 @@
 // A ledger and a sheet side by side, of which one is in use as the bottom host. The other keeps its rows meanwhile.
 ghost use mathlib.Core.Path.{_≡_};
-ghost use mathlib.Core.Bool.{cond};
+ghost use mathlib.Core.Bool.{true, cond};
 ghost use mathlib.Core.List.{[]};
+ghost use Prim.Native.Nat.{_<_};
+ghost use Rattle.std.specs.Of.Vec.{vec-len, vec-cap};
 ghost use Rattle.std.specs.Results.{isOk};
 ghost use Rattle.std.specs.Vec.{refused};
 ghost use Rattle.books.specs.declared.Bottom.the-variants as bottom;
@@ -47,6 +49,7 @@ impl Books {
     pub fn add_ledger_row(&mut self, row: LedgerRow) -> Result<(), Refused<LedgerRow>>
         ensures rows { λ r. ⌜ rowsOf (now (self .exit)) ≡ cond (isOk r) (withLedgerRow row (rowsOf (now (self .entry)))) (rowsOf (now (self .entry))) ⌝ }
         ensures refused { λ r. ⌜ refused r (λ y. y .value ≡ row) ⌝ }
+        ensures succeeds { λ r. ⌜ (vec-len (now (self .entry) .ledger .rows) < vec-cap (now (self .entry) .ledger .rows) → isOk r ≡ true) ⌝ }
     {
         self.ledger.add(row)
     }
@@ -54,6 +57,7 @@ impl Books {
     pub fn add_sheet_row(&mut self, row: SheetRow) -> Result<(), Refused<SheetRow>>
         ensures rows { λ r. ⌜ rowsOf (now (self .exit)) ≡ cond (isOk r) (withSheetRow row (rowsOf (now (self .entry)))) (rowsOf (now (self .entry))) ⌝ }
         ensures refused { λ r. ⌜ refused r (λ y. y .value ≡ row) ⌝ }
+        ensures succeeds { λ r. ⌜ (vec-len (now (self .entry) .sheet .rows) < vec-cap (now (self .entry) .sheet .rows) → isOk r ≡ true) ⌝ }
     {
         self.sheet.add(row)
     }

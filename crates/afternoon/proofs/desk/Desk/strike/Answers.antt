@@ -4,7 +4,7 @@ use Rattle.std.specs.Of.Vec.{vec-items}
 use Rattle.std.proofs.shelf.Lists.{refilled-is}
 use Rattle.registers.specs.declared.register.Register.{Register}
 use Rattle.registers.specs.Piles.{listings}
-use Rattle.books.specs.Books.{rowsOf}
+use Rattle.books.specs.Books.{Rows, rowsOf, booksTaken}
 use Rattle.afternoon.specs.Staff.{strikeIn}
 use Rattle.afternoon.specs.Desk.{registersChanged, changeAnswer}
 use Rattle.afternoon.proofs.Steps.{both}
@@ -20,4 +20,5 @@ returns c =
       desk = both _ _ _ _ (ap rowsOf (again .0 ∙ apart .0))
           (ap (λ v. listings (vec-items v)) (again .1) ∙ ap listings items ∙ c .strike-at-answer .ensures .rows ∙ ap (λ (rs : List Register). registersChanged (λ l. strikeIn l (c .args .entry)) (c .args .number) (listings rs)) were);
       answer = c .strike-at-answer .ensures .answer ∙ ap (λ (rs : List Register). changeAnswer (λ l. strikeIn l (c .args .entry)) (c .args .number) (listings rs)) were;
+      taken = λ a. ap (λ (q : Rows). booksTaken q a) (ap rowsOf (again .0 ∙ apart .0));
     }
