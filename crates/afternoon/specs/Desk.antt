@@ -36,8 +36,8 @@ stands r ls = record { rows = r; registers = ls }
 abbrev pub standing : Desk → Standing
 standing d = stands (rowsOf (d .pile .below)) (listings (vec-items (d .pile .registers)))
 
-abbrev pub atFirst : Standing
-atFirst = stands noRows []
+abbrev pub emptyDesk : Standing
+emptyDesk = stands noRows []
 
 abbrev pub addedToLedger : LedgerRow → Standing → Standing
 addedToLedger row s = stands (withLedgerRow row (s .rows)) (s .registers)
@@ -97,5 +97,5 @@ passedDown c s = stands (booksAfter (s .rows) c) (after c (booksVerdict (s .rows
 abbrev pub debited : Terms → Standing → Standing
 debited c s = cond (wide c) (either (objection (s .registers) c) (passedDown c s) (λ _. s)) s
 
-abbrev pub told : ℕ → Standing → ℕ
-told a s = booksTaken (s .rows) a
+abbrev pub figureOf : ℕ → Standing → ℕ
+figureOf a s = booksTaken (s .rows) a

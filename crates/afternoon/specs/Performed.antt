@@ -13,7 +13,7 @@ use Rattle.afternoon.specs.declared.commands.Command.the-variants as command
 use Rattle.afternoon.specs.declared.commands.Answer.{Answer}
 use Rattle.afternoon.specs.declared.commands.Answer.the-variants as answer
 use Rattle.afternoon.specs.Staff.{listIn, strikeIn}
-use Rattle.afternoon.specs.Desk.{Standing, addedToLedger, addedToSheet, usedBottom, putOn, takenOff, anyRegister, changedAt, changeAnswer, asked, debited, told}
+use Rattle.afternoon.specs.Desk.{Standing, addedToLedger, addedToSheet, usedBottom, putOn, takenOff, anyRegister, changedAt, changeAnswer, asked, debited, figureOf}
 
 -- the commands that add a row or a register
 abbrev pub needsMemory : Command → Bool
@@ -62,4 +62,4 @@ answerTo s (command.List n e) = changeTold (changeAnswer (λ l. listIn l e) n (s
 answerTo s (command.Strike n e) = changeTold (changeAnswer (λ l. strikeIn l e) n (s .registers))
 answerTo s (command.Inquire c) = codeTold (asked c s)
 answerTo s (command.Debit c) = codeTold (asked c s)
-answerTo s (command.Taken a) = answer.Taken (told a s)
+answerTo s (command.Taken a) = answer.Taken (figureOf a s)

@@ -38,37 +38,37 @@ customer b h l = record { biller = b; high = h; low = l }
 abbrev pub ceiling : ℕ → ℕ → CeilingRow
 ceiling b m = record { biller = b; left = m }
 
-abbrev pub listing : {X : Type 0} → (X → X → Bool) → (X → Bool) → (List X → Listing) → List X → X → Changed
-listing same wide sort rs q = Some (listAnswer same wide rs q, sort (listed same wide rs q))
+abbrev pub listingRow : {X : Type 0} → (X → X → Bool) → (X → Bool) → (List X → Listing) → List X → X → Changed
+listingRow same wide sort rs q = Some (listAnswer same wide rs q, sort (listed same wide rs q))
 
-abbrev pub striking : {X : Type 0} → (X → X → Bool) → (X → Bool) → (List X → Listing) → List X → X → Changed
-striking same wide sort rs q = Some (strikeAnswer same wide rs q, sort (struck same wide rs q))
+abbrev pub strikingRow : {X : Type 0} → (X → X → Bool) → (X → Bool) → (List X → Listing) → List X → X → Changed
+strikingRow same wide sort rs q = Some (strikeAnswer same wide rs q, sort (struck same wide rs q))
 
 abbrev pub listIn : Listing → Entry → Changed
 listIn (holders rs) (One b) = None
-listIn (holders rs) (Two b a) = listing sameAccount wideAccount holders rs (account b a)
+listIn (holders rs) (Two b a) = listingRow sameAccount wideAccount holders rs (account b a)
 listIn (holders rs) (Three b h l) = None
 listIn (billers rs) (One b) = None
 listIn (billers rs) (Two b a) = None
-listIn (billers rs) (Three b h l) = listing sameCustomer wideCustomer billers rs (customer b h l)
+listIn (billers rs) (Three b h l) = listingRow sameCustomer wideCustomer billers rs (customer b h l)
 listIn (mandates rs) (One b) = None
-listIn (mandates rs) (Two b a) = listing sameAccount wideAccount mandates rs (account b a)
+listIn (mandates rs) (Two b a) = listingRow sameAccount wideAccount mandates rs (account b a)
 listIn (mandates rs) (Three b h l) = None
 listIn (ceilings rs) (One b) = None
-listIn (ceilings rs) (Two b m) = listing sameBiller wideCeiling ceilings rs (ceiling b m)
+listIn (ceilings rs) (Two b m) = listingRow sameBiller wideCeiling ceilings rs (ceiling b m)
 listIn (ceilings rs) (Three b h l) = None
 
 -- a ceiling is struck off by its biller code alone
 abbrev pub strikeIn : Listing → Entry → Changed
 strikeIn (holders rs) (One b) = None
-strikeIn (holders rs) (Two b a) = striking sameAccount wideAccount holders rs (account b a)
+strikeIn (holders rs) (Two b a) = strikingRow sameAccount wideAccount holders rs (account b a)
 strikeIn (holders rs) (Three b h l) = None
 strikeIn (billers rs) (One b) = None
 strikeIn (billers rs) (Two b a) = None
-strikeIn (billers rs) (Three b h l) = striking sameCustomer wideCustomer billers rs (customer b h l)
+strikeIn (billers rs) (Three b h l) = strikingRow sameCustomer wideCustomer billers rs (customer b h l)
 strikeIn (mandates rs) (One b) = None
-strikeIn (mandates rs) (Two b a) = striking sameAccount wideAccount mandates rs (account b a)
+strikeIn (mandates rs) (Two b a) = strikingRow sameAccount wideAccount mandates rs (account b a)
 strikeIn (mandates rs) (Three b h l) = None
-strikeIn (ceilings rs) (One b) = striking sameBiller wideBiller ceilings rs (ceiling b 0)
+strikeIn (ceilings rs) (One b) = strikingRow sameBiller wideBiller ceilings rs (ceiling b 0)
 strikeIn (ceilings rs) (Two b m) = None
 strikeIn (ceilings rs) (Three b h l) = None

@@ -10,7 +10,7 @@ ghost use Rattle.std.specs.Slices.{found};
 ghost use Rattle.std.specs.Vec.{made};
 ghost use Rattle.registers.specs.Listings.{listing};
 ghost use Rattle.registers.specs.Piles.{listings};
-ghost use Rattle.afternoon.specs.Desk.{standing, atFirst, addedToLedger, addedToSheet, usedBottom, emptyOf, putOn, takenOff, anyRegister, placeOf, registersChanged, changeAnswer, changedAt, asked, debited, told};
+ghost use Rattle.afternoon.specs.Desk.{standing, emptyDesk, addedToLedger, addedToSheet, usedBottom, emptyOf, putOn, takenOff, anyRegister, placeOf, registersChanged, changeAnswer, changedAt, asked, debited, figureOf};
 ghost use Rattle.afternoon.specs.Staff.{listIn, strikeIn};
 use crate::commands::Sort;
 use crate::staff::Entry;
@@ -89,7 +89,7 @@ fn strike_at(registers: &mut [Register], number: u64, entry: Entry) -> Option<Re
 impl Desk {
     /// No rows, the ledger in use, and no registers.
     pub fn new(heap: Global) -> Desk
-        ensures { λ r. ⌜ standing r ≡ atFirst ⌝ }
+        ensures { λ r. ⌜ standing r ≡ emptyDesk ⌝ }
     {
         Desk {
             pile: Pile::new(heap, Books::new(heap)),
@@ -159,7 +159,7 @@ impl Desk {
     pub fn list(self, number: u64, entry: Entry) -> (Desk, Option<Result<(), Denial>>)
         ensures desk { λ r. ⌜ standing (r .0) ≡ changedAt (λ l. listIn l entry) number (standing self) ⌝ }
         ensures answer { λ r. ⌜ r .1 ≡ changeAnswer (λ l. listIn l entry) number (standing self .registers) ⌝ }
-        ensures taken { λ r. ⌜ ((account : ℕ) → told account (standing (r .0)) ≡ told account (standing self)) ⌝ }
+        ensures taken { λ r. ⌜ ((account : ℕ) → figureOf account (standing (r .0)) ≡ figureOf account (standing self)) ⌝ }
     {
         let (books, mut registers) = self.pile.take_apart();
         let answer = list_at(registers.as_mut_slice(), number, entry);
@@ -171,7 +171,7 @@ impl Desk {
     pub fn strike(self, number: u64, entry: Entry) -> (Desk, Option<Result<(), Denial>>)
         ensures desk { λ r. ⌜ standing (r .0) ≡ changedAt (λ l. strikeIn l entry) number (standing self) ⌝ }
         ensures answer { λ r. ⌜ r .1 ≡ changeAnswer (λ l. strikeIn l entry) number (standing self .registers) ⌝ }
-        ensures taken { λ r. ⌜ ((account : ℕ) → told account (standing (r .0)) ≡ told account (standing self)) ⌝ }
+        ensures taken { λ r. ⌜ ((account : ℕ) → figureOf account (standing (r .0)) ≡ figureOf account (standing self)) ⌝ }
     {
         let (books, mut registers) = self.pile.take_apart();
         let answer = strike_at(registers.as_mut_slice(), number, entry);
@@ -198,7 +198,7 @@ impl Desk {
 
     /// Tells the taken figure of an account.
     pub fn taken(&self, account: u64) -> u64
-        ensures { λ r. ⌜ r ≡ told account (standing (now (self .entry))) ⌝ }
+        ensures { λ r. ⌜ r ≡ figureOf account (standing (now (self .entry))) ⌝ }
     {
         self.pile.tell_taken(account)
     }

@@ -3,6 +3,7 @@ use mathlib.Core.Path.{_≡_}
 use mathlib.Core.Bool.{cond}
 use mathlib.Core.List.{List, [], _∷_, _++_, map}
 use Prim.Native.Nat.{ℕ}
+use Rattle.std.specs.Of.Vec.{vec-items}
 use Rattle.std.specs.Options.{Cases, valueOr}
 use Rattle.std.specs.declared.option.Option.{Option}
 use Rattle.std.specs.declared.option.Option.the-variants.{Some, None}
@@ -11,11 +12,16 @@ use Rattle.claims.specs.declared.codes.ResultCode.{ResultCode}
 use Rattle.claims.specs.Codes.{settles}
 use Rattle.hosts.specs.Meaning.{uppermost}
 use Rattle.tables.specs.Figures.{figuresAbove}
+use Rattle.registers.specs.declared.pile.Pile.{Pile}
 use Rattle.registers.specs.declared.register.Register.{Register}
 use Rattle.registers.specs.Listings.{Listing, listing, objects, fall}
 
 abbrev pub listings : List Register → List Listing
 listings rs = map listing rs
+
+-- what a pile holds above its host
+abbrev pub held : {P : Type 0} → Pile P → List Listing
+held s = listings (vec-items (s .registers))
 
 -- the objection of the uppermost register that objects
 abbrev pub objection : List Listing → Terms → Option ResultCode

@@ -9,7 +9,7 @@ ghost use Rattle.std.specs.Results.{isOk};
 ghost use Rattle.std.specs.Of.Vec.{vec-items, vec-len, vec-cap};
 ghost use Rattle.registers.specs.Listings.{listing, objects, fall};
 ghost use Rattle.tables.specs.Figures.{figuresAbove};
-ghost use Rattle.registers.specs.Piles.{listings, objection as objectionOf, verdictAbove, registersAbove, groundAbove, Debited, Figures-of-the-bottom, Uppermost-objects, Or-else-the-host, Stacked-as-nested, Passed, Stopped};
+ghost use Rattle.registers.specs.Piles.{listings, held, objection as objectionOf, verdictAbove, registersAbove, groundAbove, Debited, Figures-of-the-bottom, Uppermost-objects, Or-else-the-host, Stacked-as-nested, Passed, Stopped};
 use crate::register::Register;
 use claims::claim::Claim;
 use claims::codes::ResultCode;
@@ -62,9 +62,9 @@ impl<P: Host> Pile<P> {
     /// Piles these registers, uppermost first, above a host.
     pub fn stack(below: P, piled: Vec<Register>) -> Pile<P>
         ensures parts { λ r. ⌜ (r .below ≡ below) × (r .registers ≡ piled) ⌝ }
-        ensures uppermost { λ r. ⌜ registersAbove (listings (vec-items (r .registers))) (registers (r .below)) ≡ map objects (listings (vec-items piled)) ++ registers below ⌝ }
-        ensures ground { λ r. ⌜ groundAbove (listings (vec-items (r .registers))) (ground (r .below)) ≡ ground below ⌝ }
-        ensures taken { λ r. ⌜ figuresAbove (listings (vec-items (r .registers))) (taken (r .below)) ≡ taken below ⌝ }
+        ensures uppermost { λ r. ⌜ registersAbove (held r) (registers (r .below)) ≡ map objects (listings (vec-items piled)) ++ registers below ⌝ }
+        ensures ground { λ r. ⌜ groundAbove (held r) (ground (r .below)) ≡ ground below ⌝ }
+        ensures taken { λ r. ⌜ figuresAbove (held r) (taken (r .below)) ≡ taken below ⌝ }
     {
         Pile {
             below,
@@ -75,7 +75,7 @@ impl<P: Host> Pile<P> {
     /// Takes the pile apart: the host, and the registers as they stood, uppermost first.
     pub fn take_apart(self) -> (P, Vec<Register>)
         ensures parts { λ r. ⌜ (r .0 ≡ self .below) × (r .1 ≡ self .registers) ⌝ }
-        ensures taken { λ r. ⌜ taken (r .0) ≡ figuresAbove (listings (vec-items (self .registers))) (taken (self .below)) ⌝ }
+        ensures taken { λ r. ⌜ taken (r .0) ≡ figuresAbove (held self) (taken (self .below)) ⌝ }
     {
         let Pile { below, registers } = self;
         (below, registers)
@@ -87,9 +87,9 @@ impl<P: Host> Pile<P> {
         ensures refused { λ r. ⌜ refused r (λ y. y .value ≡ register) ⌝ }
         ensures succeeds { λ r. ⌜ (vec-len (now (self .entry) .registers) < vec-cap (now (self .entry) .registers) → isOk r ≡ true) ⌝ }
         ensures below { λ _. ⌜ now (self .exit) .below ≡ now (self .entry) .below ⌝ }
-        ensures uppermost { λ r. ⌜ registersAbove (listings (vec-items (now (self .exit) .registers))) (registers (now (self .exit) .below)) ≡ cond (isOk r) (objects (listing register) ∷ registersAbove (listings (vec-items (now (self .entry) .registers))) (registers (now (self .entry) .below))) (registersAbove (listings (vec-items (now (self .entry) .registers))) (registers (now (self .entry) .below))) ⌝ }
-        ensures ground { λ _. ⌜ groundAbove (listings (vec-items (now (self .exit) .registers))) (ground (now (self .exit) .below)) ≡ groundAbove (listings (vec-items (now (self .entry) .registers))) (ground (now (self .entry) .below)) ⌝ }
-        ensures taken { λ _. ⌜ figuresAbove (listings (vec-items (now (self .exit) .registers))) (taken (now (self .exit) .below)) ≡ figuresAbove (listings (vec-items (now (self .entry) .registers))) (taken (now (self .entry) .below)) ⌝ }
+        ensures uppermost { λ r. ⌜ registersAbove (held (now (self .exit))) (registers (now (self .exit) .below)) ≡ cond (isOk r) (objects (listing register) ∷ registersAbove (held (now (self .entry))) (registers (now (self .entry) .below))) (registersAbove (held (now (self .entry))) (registers (now (self .entry) .below))) ⌝ }
+        ensures ground { λ _. ⌜ groundAbove (held (now (self .exit))) (ground (now (self .exit) .below)) ≡ groundAbove (held (now (self .entry))) (ground (now (self .entry) .below)) ⌝ }
+        ensures taken { λ _. ⌜ figuresAbove (held (now (self .exit))) (taken (now (self .exit) .below)) ≡ figuresAbove (held (now (self .entry))) (taken (now (self .entry) .below)) ⌝ }
     {
         self.registers.insert(0, register)
     }
@@ -99,8 +99,8 @@ impl<P: Host> Pile<P> {
         ensures piled { λ r. ⌜ vec-items (now (self .entry) .registers) ≡ listOf r ++ vec-items (now (self .exit) .registers) ⌝ }
         ensures empty { λ r. ⌜ (r ≡ None → vec-items (now (self .entry) .registers) ≡ []) ⌝ }
         ensures below { λ _. ⌜ now (self .exit) .below ≡ now (self .entry) .below ⌝ }
-        ensures ground { λ _. ⌜ groundAbove (listings (vec-items (now (self .exit) .registers))) (ground (now (self .exit) .below)) ≡ groundAbove (listings (vec-items (now (self .entry) .registers))) (ground (now (self .entry) .below)) ⌝ }
-        ensures taken { λ _. ⌜ figuresAbove (listings (vec-items (now (self .exit) .registers))) (taken (now (self .exit) .below)) ≡ figuresAbove (listings (vec-items (now (self .entry) .registers))) (taken (now (self .entry) .below)) ⌝ }
+        ensures ground { λ _. ⌜ groundAbove (held (now (self .exit))) (ground (now (self .exit) .below)) ≡ groundAbove (held (now (self .entry))) (ground (now (self .entry) .below)) ⌝ }
+        ensures taken { λ _. ⌜ figuresAbove (held (now (self .exit))) (taken (now (self .exit) .below)) ≡ figuresAbove (held (now (self .entry))) (taken (now (self .entry) .below)) ⌝ }
     {
         if self.registers.is_empty() {
             return None;
@@ -134,15 +134,15 @@ impl<P: Host> Pile<P> {
 }
 
 pub impl<P: Host> Host for Pile<P> as PileHost {
-    ghost verdict = { λ s c. verdictAbove (listings (vec-items (s .registers))) c (P·Host .verdict (s .below) c) };
+    ghost verdict = { λ s c. verdictAbove (held s) c (P·Host .verdict (s .below) c) };
 
-    ghost taken = { λ s. figuresAbove (listings (vec-items (s .registers))) (P·Host .taken (s .below)) };
+    ghost taken = { λ s. figuresAbove (held s) (P·Host .taken (s .below)) };
 
-    ghost debits = { λ s c t. Debited (P·Host .verdict) (P·Host .debits) (listings (vec-items (s .registers))) (s .below) c (listings (vec-items (t .registers))) (t .below) };
+    ghost debits = { λ s c t. Debited (P·Host .verdict) (P·Host .debits) (held s) (s .below) c (held t) (t .below) };
 
-    ghost registers = { λ s. registersAbove (listings (vec-items (s .registers))) (P·Host .registers (s .below)) };
+    ghost registers = { λ s. registersAbove (held s) (P·Host .registers (s .below)) };
 
-    ghost ground = { λ s. groundAbove (listings (vec-items (s .registers))) (P·Host .ground (s .below)) };
+    ghost ground = { λ s. groundAbove (held s) (P·Host .ground (s .below)) };
 
     fn inquire(&self, claim: &Claim) -> ResultCode {
         if let Some(code) = objection(self.registers.as_slice(), claim.terms()) {

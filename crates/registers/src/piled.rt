@@ -3,11 +3,10 @@ ghost use mathlib.Core.Path.{_≡_};
 ghost use mathlib.Core.List.{List, [], _∷_};
 ghost use Prim.Native.Nat.{ℕ};
 ghost use Rattle.std.specs.declared.option.Option.{Option};
-ghost use Rattle.std.specs.Of.Vec.{vec-items};
 ghost use Rattle.claims.specs.declared.terms.Terms.{Terms};
 ghost use Rattle.claims.specs.declared.codes.ResultCode.{ResultCode};
 ghost use Rattle.registers.specs.Listings.{Listing, listing};
-ghost use Rattle.registers.specs.Piles.{listings, Shows-its-registers, Shows-the-ground-below, Shows-the-figures-below};
+ghost use Rattle.registers.specs.Piles.{held as heldBy, Shows-its-registers, Shows-the-ground-below, Shows-the-figures-below};
 use crate::above::Above;
 use crate::above::AboveHost;
 use crate::pile::Pile;
@@ -62,7 +61,7 @@ pub impl<P: Host> Piled for Pile<P> as PilePiled {
 
     ghost shownTaken = { Self·Host .taken };
 
-    ghost held = { λ s. listings (vec-items (s .registers)) };
+    ghost held = { heldBy };
 
     ghost registersBelow = { λ s. P·Host .registers (s .below) };
 
