@@ -1,4 +1,6 @@
 // From raw bytes to a bare file, and back: line ends and one last end-of-file byte are dropped, or each record gets its line end.
+#![tactic(auto)]
+
 ghost use Rattle.std.specs.Prelude.{◌≡◌, ◌+◌, ◌*◌, ◌/◌, ◌≤◌, length, Ok, filter};
 ghost use Rattle.records.specs.Layouts.{record_bytes};
 ghost use Rattle.zengin.specs.Lawful.{Lawful};

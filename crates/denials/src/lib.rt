@@ -1,7 +1,9 @@
 // Why a call is denied: the faults of a record, the denials of a call, and the four things that a denial tells.
+#![tactic(auto)]
+
 ghost use Rattle.std.specs.Prelude.{◌≡◌};
 ghost use Rattle.denials.specs.declared.RunDenial.TheVariants.{Broken};
-ghost use Rattle.denials.specs.Denials.{told, told_at, told_in_run, carried, tells as toldOf};
+ghost use Rattle.denials.specs.Denials.{told, told_at, told_in_run, carried, tells};
 
 /// The part of the engine whose rule was broken.
 #[derive(Clone, Copy, Debug, PartialEq, Eq)]
@@ -157,7 +159,7 @@ impl Denial {
 }
 
 fn tells(number: u8, layer: Layer, record: usize, column: usize) -> Told
-    ensures { result ≡ toldOf number layer «record» column }
+    ensures { result ≡ tells number layer «record» column }
 {
     Told {
         number,

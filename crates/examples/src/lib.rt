@@ -1,4 +1,6 @@
 // What shows the rules at work: the marked files as a theorem, longer files and hosts at their limits as tests, and a foreign host.
+#![tactic(auto)]
+
 ghost use Rattle.examples.specs.Marked.{MarkedAnswered};
 
 pub mod foreign;

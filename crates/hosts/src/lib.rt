@@ -1,4 +1,6 @@
 // What a claim is posted to: the interface that every host shows, and two hosts, the ledger and the sheet.
+#![tactic(auto)]
+
 pub mod host;
 pub mod ledger;
 pub mod sheet;

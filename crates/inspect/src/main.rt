@@ -1,4 +1,6 @@
 // Reads REQUEST.TXT in the working directory and tells what it asks for, or why it is refused and where.
+#![tactic(auto)]
+
 mod names;
 mod refusals;
 mod requests;

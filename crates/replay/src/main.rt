@@ -1,4 +1,6 @@
 // Reads SCRIPT.TXT in the working directory, a list of commands on hosts and registers, and prints an answer for each.
+#![tactic(auto)]
+
 mod answers;
 mod script;
 

@@ -1,4 +1,6 @@
 // The check of a bare request file: its length, the order of its records, their fields, and its groups' totals.
+#![tactic(auto)]
+
 pub mod c;
 pub mod check;
 pub mod groups;
