@@ -2,13 +2,13 @@ use Rattle.afternoon.specs.Staff.{strike_in}
 use Rattle.afternoon.proofs.Steps as steps
 use Rattle.afternoon.proofs.desk.strike_at.Goals as goal
 
-pub returns-in-default : goal.returns-in-default
-returns-in-default c =
-    let h = steps.absent (λ l. strike_in l c.args.entry) c.args.number c.args.registers.now c.in-default.ensures.value in
+pub returns-in_default : goal.returns-in_default
+returns-in_default c =
+    let h = steps.absent (λ l. strike_in l c.args.entry) c.args.number c.args.registers.now c.in_default.ensures.value in
     record { rows = h.0; answer = h.1 }
 
 pub returns : goal.returns
 returns c = record {
-  rows = steps.changed (λ l. strike_in l c.args.entry) c.args.number c.args.registers.now _ c.in-Some.ensures.value c.in-Some.ensures.within _ _ c.strike-in.ensures.rows;
-  answer = steps.answered (λ l. strike_in l c.args.entry) c.args.number c.args.registers.now _ c.in-Some.ensures.value c.in-Some.ensures.within _ _ c.strike-in.ensures.answer;
+  rows = steps.changed (λ l. strike_in l c.args.entry) c.args.number c.args.registers.now _ c.in-Some.ensures.value c.in-Some.ensures.within _ _ c.strike_in.ensures.rows;
+  answer = steps.answered (λ l. strike_in l c.args.entry) c.args.number c.args.registers.now _ c.in-Some.ensures.value c.in-Some.ensures.within _ _ c.strike_in.ensures.answer;
 }

@@ -14,11 +14,11 @@ returns-then-not-holds c =
     let here = wrong_here Number c.args.record.now c.loop-column.column (c.args.last + 1) c.loop-column-test.true (sym c.if-not-holds.ensures) in
     record { value = ap (λ o. judged_bytes o (number c.args.record.now c.args.first (c.args.last + 1 - c.args.first))) (sym here ∙ c.loop-column.invariant.0); below = tt }
 
-pub overflow-mul-value : goal.overflow-mul-value
-overflow-mul-value c = let room = below_power 11 c.loop-column.value (c.loop-column.column - c.args.first) c.loop-column.invariant.2 (omega arith) in search rules
+pub overflow_mul-value : goal.overflow_mul-value
+overflow_mul-value c = let room = below_power 11 c.loop-column.value (c.loop-column.column - c.args.first) c.loop-column.invariant.2 (omega arith) in search rules
 
-pub overflow-add-value : goal.overflow-add-value
-overflow-add-value c =
+pub overflow_add-value : goal.overflow_add-value
+overflow_add-value c =
     let room = below_power 11 c.loop-column.value (c.loop-column.column - c.args.first) c.loop-column.invariant.2 (omega arith) in
     let digit = digit_byte (byte_in c.args.record.now c.loop-column.column) (sym c.if-not-holds.ensures) in
     search rules

@@ -6,17 +6,17 @@ use Rattle.records.specs.declared.layouts.Rule.TheVariants.{Any}
 use Rattle.records.specs.Layouts.{field, covered_by}
 use Rattle.records.proofs.layouts.covering_number.Goals as goal
 
-pub returns-then-is-covered : goal.returns-then-is-covered
-returns-then-is-covered c =
+pub returns-then-is_covered : goal.returns-then-is_covered
+returns-then-is_covered c =
     let fs = c.layout-field-items.result.now in
     let here = at_drop_more (covered_by c.args.column (c.loop-index.index + 1)) fs c.loop-index.index (field 0 0 Number Any) c.loop-index-test.true in
-    sym (here ∙ cond-true _ _ _ (sym c.if-is-covered.ensures)) ∙ c.loop-index.invariant ∙ ap (covered_by c.args.column 1) c.layout-field-items.ensures
+    sym (here ∙ cond-true _ _ _ (sym c.if-is_covered.ensures)) ∙ c.loop-index.invariant ∙ ap (covered_by c.args.column 1) c.layout-field-items.ensures
 
 pub loop-index-preserved : goal.loop-index-preserved
 loop-index-preserved c =
     let fs = c.layout-field-items.result.now in
     let here = at_drop_more (covered_by c.args.column (c.loop-index.index + 1)) fs c.loop-index.index (field 0 0 Number Any) c.loop-index-test.true in
-    sym (here ∙ cond-false _ _ _ (sym c.if-is-covered.ensures)) ∙ c.loop-index.invariant
+    sym (here ∙ cond-false _ _ _ (sym c.if-is_covered.ensures)) ∙ c.loop-index.invariant
 
 pub returns : goal.returns
 returns c =

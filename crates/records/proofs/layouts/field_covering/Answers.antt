@@ -4,5 +4,5 @@ use Rattle.records.proofs.layouts.field_covering.Goals as goal
 
 pub returns : goal.returns
 returns c =
-    let is = c.covering-number.ensures in
+    let is = c.covering_number.ensures in
     record { answer = is; covers = λ low high. ap is_some is ∙ column_covered c.args.sort c.args.column low high; tiles = tables_tile c.args.sort }

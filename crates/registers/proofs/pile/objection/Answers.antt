@@ -5,7 +5,7 @@ pub returns-in-Some : goal.returns-in-Some
 returns-in-Some c = stacking.found c.args.terms c.args.registers.now _ _ _ c.loop-register.invariant c.loop-register-test.true c.register-item.is c.in-Some.ensures
 
 pub loop-register-preserved : goal.loop-register-preserved
-loop-register-preserved c = stacking.passes c.args.terms c.args.registers.now _ _ c.loop-register.invariant c.loop-register-test.true c.register-item.is c.in-default.ensures
+loop-register-preserved c = stacking.passes c.args.terms c.args.registers.now _ _ c.loop-register.invariant c.loop-register-test.true c.register-item.is c.in_default.ensures
 
 pub returns : goal.returns
 returns c = stacking.nobody c.args.terms c.args.registers.now _ c.loop-register.invariant c.loop-register-test.false

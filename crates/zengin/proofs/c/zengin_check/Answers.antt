@@ -6,7 +6,7 @@ use Rattle.zengin.proofs.c.zengin_check.Goals as goal
 pub returns : goal.returns
 returns c =
     let told = c.check.ensures in
-    let is = c.in-one-number.ensures in
+    let is = c.in_one_number.ensures in
     record {
       answer = is ∙ ap coded told.answer;
       passes = λ z. told.passes (coded_zero c.check.result (sym is ∙ z));

@@ -5,6 +5,6 @@ use Rattle.zengin.proofs.check.summary.Goals as goal
 pub returns : goal.returns
 returns c =
     let b = c.args.file.now in
-    let r = c.figures-of.result in
-    let is = c.figures-of.ensures in
+    let r = c.figures_of.result in
+    let is = c.figures_of.ensures in
     record { answer = is; passes = passes_lawful b r is; lawful = lawful_passes b r is; first = denies_first b r is; named = first_named b r is }

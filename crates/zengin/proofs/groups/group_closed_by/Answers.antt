@@ -4,7 +4,7 @@ use Rattle.zengin.proofs.groups.group_closed_by.Goals as goal
 
 pub returns : goal.returns
 returns c =
-    let is = c.closed-group.ensures in
+    let is = c.closed_group.ensures in
     record {
       answer = is;
       asks = λ s n g at few. is ∙ group_asks c.args.file.now c.args.trailer s n g at few;

@@ -4,4 +4,4 @@ use Rattle.zengin.proofs.shown.numbered_record.Goals as goal
 
 pub returns : goal.returns
 returns c =
-    record_numbered_lem c.args.file.now c.records-of-records.result.now c.args.number c.records-of-records.ensures.value c.if-number-eq0.false (omega (arith, c.records-of-records.ensures.len, c.if-number-records.false))
+    record_numbered_lem c.args.file.now c.records_of-records.result.now c.args.number c.records_of-records.ensures.value c.if-number-eq0.false (omega (arith, c.records_of-records.ensures.len, c.if-number-records.false))

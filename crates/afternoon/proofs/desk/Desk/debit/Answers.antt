@@ -9,6 +9,6 @@ returns c =
     let q = rows_of c.args.self.now.pile.below in
     let ls = listings (vec_items c.args.self.now.pile.registers) in
     record {
-      answer = steps.answer_asked _ c.args.terms c.in-ok-claim.ensures q ls _ c.debit.ensures.answer;
-      desk = steps.desk_debited _ c.args.terms c.in-ok-claim.ensures q ls _ _ (steps.by_rows rows_of _ _ _ _ _ _ _ c.debit.ensures.once);
+      answer = steps.answer_asked _ c.args.terms c.in_ok-claim.ensures q ls _ c.debit.ensures.answer;
+      desk = steps.desk_debited _ c.args.terms c.in_ok-claim.ensures q ls _ _ (steps.by_rows rows_of _ _ _ _ _ _ _ c.debit.ensures.once);
     }

@@ -7,6 +7,6 @@ use Rattle.afternoon.proofs.desk.Desk.put.Goals as goal
 
 pub returns : goal.returns
 returns c = record {
-  desk = put_on_lem _ c.if-is-err.ensures.value _ _ _ _ _ _ c.put.ensures.piled c.in-ok-register.ensures (ap rows_of c.put.ensures.below);
+  desk = put_on_lem _ c.if-is_err.ensures.value _ _ _ _ _ _ c.put.ensures.piled c.in_ok-register.ensures (ap rows_of c.put.ensures.below);
   number = ap length c.registers.ensures ∙ sym (length-map (vec_items c.put.new.self.registers) listing);
 }

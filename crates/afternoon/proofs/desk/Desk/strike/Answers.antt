@@ -10,13 +10,13 @@ use Rattle.afternoon.proofs.desk.Desk.strike.Goals as goal
 
 pub returns : goal.returns
 returns c =
-    let apart = c.take-apart-books.ensures.parts in
+    let apart = c.take_apart-books.ensures.parts in
     let again = c.stack-pile.ensures.parts in
-    let items = with_items_is c.take-apart-books.result.1 c.strike-at-answer.new.registers (c.strike-at-answer.auto.registers ∙ c.as-mut-slice.ensures.len) in
-    let were = c.as-mut-slice.ensures.value ∙ ap vec_items apart.1 in
+    let items = with_items_is c.take_apart-books.result.1 c.strike_at-answer.new.registers (c.strike_at-answer.auto.registers ∙ c.as_mut_slice.ensures.len) in
+    let were = c.as_mut_slice.ensures.value ∙ ap vec_items apart.1 in
     record {
       desk = both _ _ _ _ (ap rows_of (again.0 ∙ apart.0))
-          (ap (λ v. listings (vec_items v)) again.1 ∙ ap listings items ∙ c.strike-at-answer.ensures.rows ∙ ap (λ (rs : List Register). registers_changed (λ l. strike_in l c.args.entry) c.args.number (listings rs)) were);
-      answer = c.strike-at-answer.ensures.answer ∙ ap (λ (rs : List Register). change_answer (λ l. strike_in l c.args.entry) c.args.number (listings rs)) were;
+          (ap (λ v. listings (vec_items v)) again.1 ∙ ap listings items ∙ c.strike_at-answer.ensures.rows ∙ ap (λ (rs : List Register). registers_changed (λ l. strike_in l c.args.entry) c.args.number (listings rs)) were);
+      answer = c.strike_at-answer.ensures.answer ∙ ap (λ (rs : List Register). change_answer (λ l. strike_in l c.args.entry) c.args.number (listings rs)) were;
       taken = λ a. ap (λ (q : Rows). books_taken q a) (ap rows_of (again.0 ∙ apart.0));
     }

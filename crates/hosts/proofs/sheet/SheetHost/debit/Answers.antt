@@ -2,9 +2,9 @@ use Rattle.std.proofs.Common.{set, vec_items, sym, ap, ◌∙◌}
 use Rattle.hosts.specs.SheetsLemmas as sheets
 use Rattle.hosts.proofs.sheet.SheetHost.debit.Goals as goal
 
-pub returns-in-default : goal.returns-in-default
-returns-in-default c =
-    let h = sheets.missing _ _ _ c.terms.ensures.value c.in-default.ensures.value in
+pub returns-in_default : goal.returns-in_default
+returns-in_default c =
+    let h = sheets.missing _ _ _ c.terms.ensures.value c.in_default.ensures.value in
     record { answer = h.0; once = h.1 }
 
 pub returns-then-eq : goal.returns-then-eq

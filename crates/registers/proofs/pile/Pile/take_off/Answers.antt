@@ -3,5 +3,5 @@ use Rattle.std.proofs.lemmas.List.{nil_from_length}
 use Rattle.std.proofs.lemmas.Bool.{eqb-true}
 use Rattle.registers.proofs.pile.Pile.take_off.Goals as goal
 
-pub returns-then-is-empty : goal.returns-then-is-empty
-returns-then-is-empty g c = record { piled = refl; empty = λ _. nil_from_length _ (sym c.args.self.now.registers.ok.0 ∙ eqb-true _ _ (sym c.if-is-empty.ensures)); below = refl; ground = refl; taken = refl }
+pub returns-then-is_empty : goal.returns-then-is_empty
+returns-then-is_empty g c = record { piled = refl; empty = λ _. nil_from_length _ (sym c.args.self.now.registers.ok.0 ∙ eqb-true _ _ (sym c.if-is_empty.ensures)); below = refl; ground = refl; taken = refl }

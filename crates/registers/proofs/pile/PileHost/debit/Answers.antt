@@ -6,9 +6,9 @@ use Rattle.registers.proofs.pile.PileHost.debit.Goals as goal
 
 pub returns-then-eq : goal.returns-then-eq
 returns-then-eq g c =
-    let n = stacking.silent _ _ _ _ c.as-slice.ensures.value c.terms-terms.ensures.value c.in-default.ensures in
-    let items = with_items_is c.args.self.now.registers c.lower.new.registers (c.lower.auto.registers ∙ c.as-mut-slice.ensures.len) in
-    let fell = stacking.lowered_all _ _ _ _ c.as-mut-slice.ensures.value c.terms-terms.ensures.value _ _ (sym c.debit-code.ensures.answer ∙ c.if-eq.ensures) c.lower.ensures in
+    let n = stacking.silent _ _ _ _ c.as_slice.ensures.value c.terms-terms.ensures.value c.in_default.ensures in
+    let items = with_items_is c.args.self.now.registers c.lower.new.registers (c.lower.auto.registers ∙ c.as_mut_slice.ensures.len) in
+    let fell = stacking.lowered_all _ _ _ _ c.as_mut_slice.ensures.value c.terms-terms.ensures.value _ _ (sym c.debit-code.ensures.answer ∙ c.if-eq.ensures) c.lower.ensures in
     record {
       answer = stacking.through _ _ _ n c.debit-code.ensures.answer;
       once = stacking.down _ _ n (c.debit-code.ensures.once, ap listings items ∙ fell);
