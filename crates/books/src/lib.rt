@@ -73,7 +73,7 @@ impl Host for Books {
 
     ghost registers = { λ _. [] };
 
-    ghost ground = { λ s. books_verdict (rows_of s) };
+    ghost bottom_verdict = { λ s. books_verdict (rows_of s) };
 
     ghost raises = { λ s t. books_laws.raises (rows_of s) (rows_of t) };
 

@@ -20,7 +20,7 @@ impl Host for AlwaysOther {
 
     ghost registers = { λ _. [] };
 
-    ghost ground = { λ _ _. Other };
+    ghost bottom_verdict = { λ _ _. Other };
 
     ghost raises = { Prim.search rules };
 

@@ -27,16 +27,16 @@ answered_above : (xs ys : List (Terms → Option ResultCode)) (c : Terms) (g : R
 answered_above xs ys c g = ap (λ (o : Option ResultCode). unwrap_or o g) (uppermost_above xs ys c) ∙ answered_by (uppermost xs c) (uppermost ys c) g
 
 -- the five laws together
-pub record Laws {S : Type 0} (verdict : S → Terms → ResultCode) (taken : S → ℕ → ℕ) (debits : S → Terms → S → Type 0) (registers : S → List (Terms → Option ResultCode)) (ground : S → Terms → ResultCode) : Type 0 where
+pub record Laws {S : Type 0} (verdict : S → Terms → ResultCode) (taken : S → ℕ → ℕ) (debits : S → Terms → S → Type 0) (registers : S → List (Terms → Option ResultCode)) (bottom_verdict : S → Terms → ResultCode) : Type 0 where
   pub raises : SettlingRaises verdict taken debits
   pub figures : RefusingKeepsFigures verdict taken debits
   pub verdicts : RefusingKeepsVerdicts verdict debits
   pub limit : SettlingWithinLimit verdict taken
-  pub highest : VerdictOfTheUppermost verdict registers ground
+  pub highest : VerdictOfTheUppermost verdict registers bottom_verdict
 
 -- u stands above below u, and shows above u; kept: nothing changed; rest: what else a debit below comes with
-module _ {S U : Type 0} (verdict : S → Terms → ResultCode) (taken : S → ℕ → ℕ) (debits : S → Terms → S → Type 0) (registers : S → List (Terms → Option ResultCode)) (ground : S → Terms → ResultCode)
-    (laws : Laws verdict taken debits registers ground)
+module _ {S U : Type 0} (verdict : S → Terms → ResultCode) (taken : S → ℕ → ℕ) (debits : S → Terms → S → Type 0) (registers : S → List (Terms → Option ResultCode)) (bottom_verdict : S → Terms → ResultCode)
+    (laws : Laws verdict taken debits registers bottom_verdict)
     (below : U → S) (above : U → List (Terms → Option ResultCode)) (rest kept : U → Terms → U → Type 0)
     (never : (u : U) (c : Terms) → uppermost (above u) c ≢ Some Settled)
     (stable : (u v : U) (c : Terms) → rest u c v → (verdict (below u) c ≢ Settled) → above v ≡ above u)
@@ -65,11 +65,11 @@ module _ {S U : Type 0} (verdict : S → Terms → ResultCode) (taken : S → �
   same_verdict u v c None w d n x wx = let high = stable u v c d.1 n in let low = laws.verdicts (below u) (below v) c w d.0 n x wx in cc
   same_verdict u v c (Some k) w d n x wx = let high = kept_above u v c d in let low = kept_below u v c d in cc
 
-  pub layered : Laws layer_verdict (λ u. taken (below u)) layer_debits (λ u. above u ++ registers (below u)) (λ u. ground (below u))
+  pub layered : Laws layer_verdict (λ u. taken (below u)) layer_debits (λ u. above u ++ registers (below u)) (λ u. bottom_verdict (below u))
   layered = record {
     raises = λ u v c w d is a l. let p = passed u v c (uppermost (above u) c) refl d is in laws.raises (below u) (below v) c w p.0 p.1 a l;
     figures = λ u v c w d n a l. same_figure u v c (uppermost (above u) c) w d n a l;
     verdicts = λ u v c w d n x wx. same_verdict u v c (uppermost (above u) c) w d n x wx;
     limit = λ u c w is. laws.limit (below u) c w (settled_below u c (uppermost (above u) c) refl is);
-    highest = λ u c w. ap (unwrap_or (uppermost (above u) c)) (laws.highest (below u) c w) ∙ sym (answered_above (above u) (registers (below u)) c (ground (below u) c));
+    highest = λ u c w. ap (unwrap_or (uppermost (above u) c)) (laws.highest (below u) c w) ∙ sym (answered_above (above u) (registers (below u)) c (bottom_verdict (below u) c));
   }

@@ -43,5 +43,5 @@ SettlingWithinLimit {S} verdict taken =
     (s : S) (c : Terms) → Wide c → verdict s c ≡ Settled → taken s c.account + c.amount ≤ figure_limit
 
 abbrev pub VerdictOfTheUppermost : {S : Type 0} → (S → Terms → ResultCode) → (S → List (Terms → Option ResultCode)) → (S → Terms → ResultCode) → Type 0
-VerdictOfTheUppermost {S} verdict registers ground =
-    (s : S) (c : Terms) → Wide c → verdict s c ≡ answered (registers s) c (ground s c)
+VerdictOfTheUppermost {S} verdict registers bottom_verdict =
+    (s : S) (c : Terms) → Wide c → verdict s c ≡ answered (registers s) c (bottom_verdict s c)

@@ -25,7 +25,7 @@ pub trait Host {
     ghost registers: { Self → List (Terms → Option ResultCode) };
 
     /// What the bottom host says of a claim.
-    ghost ground: { Self → Terms → ResultCode };
+    ghost bottom_verdict: { Self → Terms → ResultCode };
 
     /// Tells the verdict.
     fn inquire(&self, claim: &Claim) -> ResultCode
@@ -53,5 +53,5 @@ pub trait Host {
     ghost limit: { SettlingWithinLimit verdict taken };
 
     /// The verdict is that of the uppermost register that objects, or else the bottom host's.
-    ghost uppermost: { VerdictOfTheUppermost verdict registers ground };
+    ghost uppermost: { VerdictOfTheUppermost verdict registers bottom_verdict };
 }

@@ -95,7 +95,7 @@ impl Host for Ledger {
 
     ghost registers = { λ _. [] };
 
-    ghost ground = { λ s. ledger_verdict s.rows.items };
+    ghost bottom_verdict = { λ s. ledger_verdict s.rows.items };
 
     ghost raises = { λ s t. ledger_laws.raises s.rows.items t.rows.items };
 

@@ -126,7 +126,7 @@ impl Host for Sheet {
 
     ghost registers = { λ _. [] };
 
-    ghost ground = { λ s. sheet_verdict s.rows.items };
+    ghost bottom_verdict = { λ s. sheet_verdict s.rows.items };
 
     ghost raises = { λ s t. sheet_laws.raises s.rows.items t.rows.items };
 

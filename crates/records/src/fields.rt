@@ -1,6 +1,6 @@
 // One field of one record: the class of its bytes, then the rule on its number.
 ghost use Rattle.std.specs.Prelude.{◌≡◌, ◌+◌, ◌-◌, ◌^◌, ◌<◌, ◌≤◌, true, IfOk};
-ghost use Rattle.records.specs.Layouts.{holds as holds_of, is_date, keeps as keepsOf, numbered};
+ghost use Rattle.records.specs.Layouts.{holds as holds_of, is_date, keeps as keeps_of, numbered};
 ghost use Rattle.records.specs.Fields.{first_wrong_byte, number as number_of, judged_bytes, is_sound, read_field, read_if_any};
 
 use crate::layouts::{Class, Field, Rule, Sort, numbered_field};
@@ -36,7 +36,7 @@ fn is_date(month: u64, day: u64) -> bool
 
 impl Rule {
     fn keeps(self, number: u64) -> bool
-        ensures { result ≡ keepsOf self number }
+        ensures { result ≡ keeps_of self number }
     {
         match self {
             Rule::Any => true,

@@ -20,11 +20,11 @@ abbrev pub LawsAbove : {S U : Type 0} → Ghosts S → (U → S) → (U → List
 LawsAbove {U = U} h below lists =
     Laws {S = U} (λ u c. verdict_above (lists u) c (h.verdict (below u) c)) (λ u. figures_above (lists u) (h.taken (below u)))
     (λ u c v. Debited h.verdict h.debits (lists u) (below u) c (lists v) (below v))
-    (λ u. registers_above (lists u) (h.registers (below u))) (λ u. ground_above (lists u) (h.ground (below u)))
+    (λ u. registers_above (lists u) (h.registers (below u))) (λ u. ground_above (lists u) (h.bottom_verdict (below u)))
 
-pub pile_laws : {S U : Type 0} (h : Ghosts S) → Laws h.verdict h.taken h.debits h.registers h.ground → (below : U → S) (lists : U → List Listing) → LawsAbove h below lists
+pub pile_laws : {S U : Type 0} (h : Ghosts S) → Laws h.verdict h.taken h.debits h.registers h.bottom_verdict → (below : U → S) (lists : U → List Listing) → LawsAbove h below lists
 pile_laws h laws below lists =
-    layered h.verdict h.taken h.debits h.registers h.ground laws below (λ u. map objects (lists u))
+    layered h.verdict h.taken h.debits h.registers h.bottom_verdict laws below (λ u. map objects (lists u))
     (λ u c v. lists v ≡ after c (h.verdict (below u) c) (lists u))
     (λ u c v. (lists v ≡ lists u) × (below v ≡ below u))
     (λ u c. never_settles (lists u) c)

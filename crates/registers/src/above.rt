@@ -20,7 +20,7 @@ impl<P: Host> Above<P> {
     pub fn pile(register: Register, below: P) -> Above<P>
         ensures parts { (result.register ≡ register) × (result.below ≡ below) }
         ensures uppermost { registers_above (listing result.register ∷ []) (registers result.below) ≡ objects (listing register) ∷ registers below }
-        ensures ground { ground_above (listing result.register ∷ []) (ground result.below) ≡ ground below }
+        ensures bottom_verdict { ground_above (listing result.register ∷ []) (bottom_verdict result.below) ≡ bottom_verdict below }
         ensures taken { figures_above (listing result.register ∷ []) (taken result.below) ≡ taken below }
     {
         Above { below, register }
@@ -45,7 +45,7 @@ impl<P: Host> Host for Above<P> {
 
     ghost registers = { λ s. registers_above (listing s.register ∷ []) (P.Host.registers s.below) };
 
-    ghost ground = { λ s. ground_above (listing s.register ∷ []) (P.Host.ground s.below) };
+    ghost bottom_verdict = { λ s. ground_above (listing s.register ∷ []) (P.Host.bottom_verdict s.below) };
 
     fn inquire(&self, claim: &Claim) -> ResultCode {
         if let Some(code) = self.register.objection(claim.terms()) {

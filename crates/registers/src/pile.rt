@@ -3,7 +3,7 @@ ghost use Rattle.std.specs.Prelude.{◌≡◌, ◌<◌, true, [], ◌∷◌, ◌
 ghost use Rattle.std.specs.Option.{option_to_list};
 ghost use Rattle.registers.specs.Listings.{listing, objects, fall};
 ghost use Rattle.tables.specs.Figures.{figures_above};
-ghost use Rattle.registers.specs.Piles.{listings, held, objection as objectionOf, verdict_above, registers_above, ground_above, Debited, FiguresOfTheBottom, UppermostObjects, OrElseTheHost, StackedAsNested, Passed, Stopped};
+ghost use Rattle.registers.specs.Piles.{listings, held, objection as objection_of, verdict_above, registers_above, ground_above, Debited, FiguresOfTheBottom, UppermostObjects, OrElseTheHost, StackedAsNested, Passed, Stopped};
 
 use crate::register::Register;
 use claims::claim::Claim;
@@ -21,7 +21,7 @@ pub struct Pile<P> {
 
 // The objection of the uppermost register that objects.
 fn objection(registers: &[Register], terms: Terms) -> Option<ResultCode>
-    ensures { result ≡ objectionOf (listings registers.now) terms }
+    ensures { result ≡ objection_of (listings registers.now) terms }
 {
     for register in registers {
         if let Some(code) = register.objection(terms) {
@@ -56,7 +56,7 @@ impl<P: Host> Pile<P> {
     pub fn stack(below: P, piled: Vec<Register>) -> Pile<P>
         ensures parts { (result.below ≡ below) × (result.registers ≡ piled) }
         ensures uppermost { registers_above (held result) (registers result.below) ≡ map objects (listings piled.items) ++ registers below }
-        ensures ground { ground_above (held result) (ground result.below) ≡ ground below }
+        ensures bottom_verdict { ground_above (held result) (bottom_verdict result.below) ≡ bottom_verdict below }
         ensures taken { figures_above (held result) (taken result.below) ≡ taken below }
     {
         Pile {
@@ -81,7 +81,7 @@ impl<P: Host> Pile<P> {
         ensures succeeds { vec_len self.old.registers < vec_capacity self.old.registers → is_ok result ≡ true }
         ensures below { self.new.below ≡ self.old.below }
         ensures uppermost { registers_above (held self.new) (registers self.new.below) ≡ (if is_ok result then objects (listing register) ∷ registers_above (held self.old) (registers self.old.below) else registers_above (held self.old) (registers self.old.below)) }
-        ensures ground { ground_above (held self.new) (ground self.new.below) ≡ ground_above (held self.old) (ground self.old.below) }
+        ensures bottom_verdict { ground_above (held self.new) (bottom_verdict self.new.below) ≡ ground_above (held self.old) (bottom_verdict self.old.below) }
         ensures taken { figures_above (held self.new) (taken self.new.below) ≡ figures_above (held self.old) (taken self.old.below) }
     {
         self.registers.insert(0, register)
@@ -92,7 +92,7 @@ impl<P: Host> Pile<P> {
         ensures piled { self.old.registers.items ≡ option_to_list result ++ self.new.registers.items }
         ensures empty { result ≡ None → self.old.registers.items ≡ [] }
         ensures below { self.new.below ≡ self.old.below }
-        ensures ground { ground_above (held self.new) (ground self.new.below) ≡ ground_above (held self.old) (ground self.old.below) }
+        ensures bottom_verdict { ground_above (held self.new) (bottom_verdict self.new.below) ≡ ground_above (held self.old) (bottom_verdict self.old.below) }
         ensures taken { figures_above (held self.new) (taken self.new.below) ≡ figures_above (held self.old) (taken self.old.below) }
     {
         if self.registers.is_empty() {
@@ -135,7 +135,7 @@ impl<P: Host> Host for Pile<P> {
 
     ghost registers = { λ s. registers_above (held s) (P.Host.registers s.below) };
 
-    ghost ground = { λ s. ground_above (held s) (P.Host.ground s.below) };
+    ghost bottom_verdict = { λ s. ground_above (held s) (P.Host.bottom_verdict s.below) };
 
     fn inquire(&self, claim: &Claim) -> ResultCode {
         if let Some(code) = objection(self.registers.as_slice(), claim.terms()) {

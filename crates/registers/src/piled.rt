@@ -3,7 +3,7 @@ ghost use Rattle.std.specs.Prelude.{◌≡◌, ℕ, List, [], ◌∷◌, Option}
 ghost use Rattle.claims.specs.declared.terms.Terms.{Terms};
 ghost use Rattle.claims.specs.declared.codes.ResultCode.{ResultCode};
 ghost use Rattle.registers.specs.Listings.{Listing, listing};
-ghost use Rattle.registers.specs.Piles.{held as heldBy, ShowsItsRegisters, ShowsTheGroundBelow, ShowsTheFiguresBelow};
+ghost use Rattle.registers.specs.Piles.{held as held_by, ShowsItsRegisters, ShowsTheGroundBelow, ShowsTheFiguresBelow};
 ghost use Rattle.std.proofs.Common.{rules};
 
 use crate::above::Above;
@@ -12,69 +12,69 @@ use hosts::host::Host;
 
 pub trait Piled: Host {
     /// What this host shows: in each impl below the host's own members.
-    ghost shownRegisters: { Self → List (Terms → Option ResultCode) };
+    ghost shown_registers: { Self → List (Terms → Option ResultCode) };
 
-    ghost shownGround: { Self → Terms → ResultCode };
+    ghost shown_ground: { Self → Terms → ResultCode };
 
-    ghost shownTaken: { Self → ℕ → ℕ };
+    ghost shown_taken: { Self → ℕ → ℕ };
 
     /// The registers that it holds, uppermost first.
     ghost held: { Self → List Listing };
 
     /// What the host below shows.
-    ghost registersBelow: { Self → List (Terms → Option ResultCode) };
+    ghost registers_below: { Self → List (Terms → Option ResultCode) };
 
-    ghost groundBelow: { Self → Terms → ResultCode };
+    ghost ground_below: { Self → Terms → ResultCode };
 
-    ghost takenBelow: { Self → ℕ → ℕ };
+    ghost taken_below: { Self → ℕ → ℕ };
 
-    ghost showsItself: { ShowsItsRegisters shownRegisters held registersBelow };
+    ghost shows_itself: { ShowsItsRegisters shown_registers held registers_below };
 
-    ghost showsGround: { ShowsTheGroundBelow shownGround groundBelow };
+    ghost shows_ground: { ShowsTheGroundBelow shown_ground ground_below };
 
-    ghost showsFigures: { ShowsTheFiguresBelow shownTaken takenBelow };
+    ghost shows_figures: { ShowsTheFiguresBelow shown_taken taken_below };
 }
 
 impl<P: Host> Piled for Above<P> {
-    ghost shownRegisters = { Self.Host.registers };
+    ghost shown_registers = { Self.Host.registers };
 
-    ghost shownGround = { Self.Host.ground };
+    ghost shown_ground = { Self.Host.bottom_verdict };
 
-    ghost shownTaken = { Self.Host.taken };
+    ghost shown_taken = { Self.Host.taken };
 
     ghost held = { λ s. listing s.register ∷ [] };
 
-    ghost registersBelow = { λ s. P.Host.registers s.below };
+    ghost registers_below = { λ s. P.Host.registers s.below };
 
-    ghost groundBelow = { λ s. P.Host.ground s.below };
+    ghost ground_below = { λ s. P.Host.bottom_verdict s.below };
 
-    ghost takenBelow = { λ s. P.Host.taken s.below };
+    ghost taken_below = { λ s. P.Host.taken s.below };
 
-    ghost showsItself = { Prim.search rules };
+    ghost shows_itself = { Prim.search rules };
 
-    ghost showsGround = { Prim.search rules };
+    ghost shows_ground = { Prim.search rules };
 
-    ghost showsFigures = { Prim.search rules };
+    ghost shows_figures = { Prim.search rules };
 }
 
 impl<P: Host> Piled for Pile<P> {
-    ghost shownRegisters = { Self.Host.registers };
+    ghost shown_registers = { Self.Host.registers };
 
-    ghost shownGround = { Self.Host.ground };
+    ghost shown_ground = { Self.Host.bottom_verdict };
 
-    ghost shownTaken = { Self.Host.taken };
+    ghost shown_taken = { Self.Host.taken };
 
-    ghost held = { heldBy };
+    ghost held = { held_by };
 
-    ghost registersBelow = { λ s. P.Host.registers s.below };
+    ghost registers_below = { λ s. P.Host.registers s.below };
 
-    ghost groundBelow = { λ s. P.Host.ground s.below };
+    ghost ground_below = { λ s. P.Host.bottom_verdict s.below };
 
-    ghost takenBelow = { λ s. P.Host.taken s.below };
+    ghost taken_below = { λ s. P.Host.taken s.below };
 
-    ghost showsItself = { Prim.search rules };
+    ghost shows_itself = { Prim.search rules };
 
-    ghost showsGround = { Prim.search rules };
+    ghost shows_ground = { Prim.search rules };
 
-    ghost showsFigures = { Prim.search rules };
+    ghost shows_figures = { Prim.search rules };
 }

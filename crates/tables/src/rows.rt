@@ -10,7 +10,7 @@ pub trait Row {
     ghost same: { Self → Self → Bool };
 
     /// The parts that the row is known by keep their widths.
-    ghost wideKey: { Self → Bool };
+    ghost wide_key: { Self → Bool };
 
     /// All its numbers keep their widths.
     ghost wide: { Self → Bool };
@@ -19,7 +19,7 @@ pub trait Row {
         ensures { result ≡ same self.now other.now };
 
     fn is_wide_key(&self) -> bool
-        ensures { result ≡ wideKey self.now };
+        ensures { result ≡ wide_key self.now };
 
     fn is_wide(&self) -> bool
         ensures { result ≡ wide self.now };
@@ -50,7 +50,7 @@ pub struct CeilingRow {
 impl Row for AccountRow {
     ghost same = { same_account };
 
-    ghost wideKey = { wide_account };
+    ghost wide_key = { wide_account };
 
     ghost wide = { wide_account };
 
@@ -70,7 +70,7 @@ impl Row for AccountRow {
 impl Row for CustomerRow {
     ghost same = { same_customer };
 
-    ghost wideKey = { wide_customer };
+    ghost wide_key = { wide_customer };
 
     ghost wide = { wide_customer };
 
@@ -90,7 +90,7 @@ impl Row for CustomerRow {
 impl Row for CeilingRow {
     ghost same = { same_biller };
 
-    ghost wideKey = { wide_biller };
+    ghost wide_key = { wide_biller };
 
     ghost wide = { wide_ceiling };
 

@@ -3,10 +3,12 @@ use Rattle.std.proofs.Common.{◌≡◌, ℕ, ◌+◌, ◌*◌, ◌/◌, ◌%◌
 use Rattle.std.proofs.lemmas.Bool.{ltb-true, ltb-false, eqb-true, eqb-false}
 use Rattle.std.proofs.lemmas.Bool.Decides.{nat_tests}
 use Rattle.denials.specs.declared.Denial.{Denial}
-use Rattle.denials.specs.declared.Denial.TheVariants.{BareLength, TooManyRecords, Faulty, ShortBuffer, OutsideWidth, RegisterFull, AlreadyListed, NotListed}
+use Rattle.denials.specs.declared.Denial.TheVariants.{BareLength, TooManyRecords, RawTooLong, Faulty, ShortBuffer, Run, OutsideWidth, RegisterFull, AlreadyListed, NotListed, MalformedLine, AccountsTooLong}
 use Rattle.denials.specs.declared.Fault.{Fault}
 use Rattle.denials.specs.declared.Fault.TheVariants.{OutOfOrder, WrongByte, WrongValue, WrongCount, WrongAmount}
-use Rattle.denials.specs.Denials.{told, told_at}
+use Rattle.denials.specs.declared.RunDenial.{RunDenial}
+use Rattle.denials.specs.declared.RunDenial.TheVariants.{OtherLength, NoRecordLeft, Broken, OtherSort}
+use Rattle.denials.specs.Denials.{told, told_at, told_in_run}
 use Rattle.records.specs.declared.layouts.Field.{Field}
 use Rattle.records.specs.Layouts.{Inside}
 use Rattle.records.specs.Fields.{Bytes}
@@ -159,11 +161,21 @@ number_some (Faulty f) = fault_some f.fault
     fault_some (WrongValue col) = omega arith
     fault_some WrongCount = omega arith
     fault_some WrongAmount = omega arith
+number_some RawTooLong = omega arith
 number_some ShortBuffer = omega arith
+number_some (Run d) = run_some d
+  where
+    run_some : (d : RunDenial) → 1 ≤ (told_in_run d).number
+    run_some OtherLength = omega arith
+    run_some NoRecordLeft = omega arith
+    run_some (Broken f) = omega arith
+    run_some (OtherSort r) = omega arith
 number_some OutsideWidth = omega arith
 number_some RegisterFull = omega arith
 number_some AlreadyListed = omega arith
 number_some NotListed = omega arith
+number_some (MalformedLine line) = omega arith
+number_some AccountsTooLong = omega arith
 
 pub coded_zero : (r : Result (Unit {0}) Denial) → coded r ≡ 0 → r ≡ Ok tt
 coded_zero (Ok done) e = refl

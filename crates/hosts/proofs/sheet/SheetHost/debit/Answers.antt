@@ -1,4 +1,5 @@
 use Rattle.std.proofs.Common.{set, vec_items, sym, ap, ◌∙◌}
+use Rattle.claims.proofs.Settling.{same_code, other_code}
 use Rattle.hosts.specs.SheetsLemmas as sheets
 use Rattle.hosts.proofs.sheet.SheetHost.debit.Goals as goal
 
@@ -10,13 +11,13 @@ returns-in_default c =
 pub returns-then-eq : goal.returns-then-eq
 returns-then-eq c =
     record {
-      answer = c.result-code.ensures ∙ sheets.says _ _ _ c.terms.ensures.value _ _ c.in-Some.ensures.value c.in-Some.ensures.within c.index-mut-row.ensures.value;
-      once = ap (λ r. set (vec_items c.args.self.now.rows) c.in-Some.i r) c.spend.ensures ∙ sheets.settled _ _ _ c.terms.ensures.value _ _ c.in-Some.ensures.value c.in-Some.ensures.within c.index-mut-row.ensures.value (sym c.result-code.ensures ∙ c.if-eq.ensures);
+      answer = c.result-code.ensures ∙ sheets.says _ _ _ c.terms.ensures.value _ _ c.in-Some.ensures.value c.in-Some.ensures.within c.index_mut-row.ensures.value;
+      once = ap (λ r. set (vec_items c.args.self.now.rows) c.in-Some.i r) c.spend.ensures ∙ sheets.settled _ _ _ c.terms.ensures.value _ _ c.in-Some.ensures.value c.in-Some.ensures.within c.index_mut-row.ensures.value (sym c.result-code.ensures ∙ same_code _ _ c.if-eq.ensures);
     }
 
 pub returns-else-eq : goal.returns-else-eq
 returns-else-eq c =
     record {
-      answer = c.result-code.ensures ∙ sheets.says _ _ _ c.terms.ensures.value _ _ c.in-Some.ensures.value c.in-Some.ensures.within c.index-mut-row.ensures.value;
-      once = sheets.refused _ _ _ c.terms.ensures.value _ _ c.in-Some.ensures.value c.in-Some.ensures.within c.index-mut-row.ensures.value (λ v. c.if-eq.ensures (c.result-code.ensures ∙ v));
+      answer = c.result-code.ensures ∙ sheets.says _ _ _ c.terms.ensures.value _ _ c.in-Some.ensures.value c.in-Some.ensures.within c.index_mut-row.ensures.value;
+      once = sheets.refused _ _ _ c.terms.ensures.value _ _ c.in-Some.ensures.value c.in-Some.ensures.within c.index_mut-row.ensures.value (λ v. other_code _ c.if-eq.ensures (c.result-code.ensures ∙ v));
     }
