@@ -19,9 +19,9 @@ impl<P: Host> Above<P> {
     /// Piles a register above a host.
     pub fn pile(register: Register, below: P) -> Above<P>
         ensures parts { (result.register ≡ register) × (result.below ≡ below) }
-        ensures uppermost { registers_above (listing result.register ∷ []) (registers result.below) ≡ objects (listing register) ∷ registers below }
-        ensures bottom_verdict { ground_above (listing result.register ∷ []) (bottom_verdict result.below) ≡ bottom_verdict below }
-        ensures taken { figures_above (listing result.register ∷ []) (taken result.below) ≡ taken below }
+        ensures uppermost { registers_above (listing result.register ∷ []) (P.registers result.below) ≡ objects (listing register) ∷ P.registers below }
+        ensures bottom_verdict { ground_above (listing result.register ∷ []) (P.bottom_verdict result.below) ≡ P.bottom_verdict below }
+        ensures taken { figures_above (listing result.register ∷ []) (P.taken result.below) ≡ P.taken below }
     {
         Above { below, register }
     }
@@ -29,7 +29,7 @@ impl<P: Host> Above<P> {
     /// Takes the register off, so that staff can change it; both come back unharmed.
     pub fn take_off(self) -> (Register, P)
         ensures parts { (result.0 ≡ self.register) × (result.1 ≡ self.below) }
-        ensures taken { taken result.1 ≡ figures_above (listing self.register ∷ []) (taken self.below) }
+        ensures taken { P.taken result.1 ≡ figures_above (listing self.register ∷ []) (P.taken self.below) }
     {
         let Above { below, register } = self;
         (register, below)

@@ -55,9 +55,9 @@ impl<P: Host> Pile<P> {
     /// Piles these registers, uppermost first, above a host.
     pub fn stack(below: P, piled: Vec<Register>) -> Pile<P>
         ensures parts { (result.below ≡ below) × (result.registers ≡ piled) }
-        ensures uppermost { registers_above (held result) (registers result.below) ≡ map objects (listings piled.items) ++ registers below }
-        ensures bottom_verdict { ground_above (held result) (bottom_verdict result.below) ≡ bottom_verdict below }
-        ensures taken { figures_above (held result) (taken result.below) ≡ taken below }
+        ensures uppermost { registers_above (held result) (P.registers result.below) ≡ map objects (listings piled.items) ++ P.registers below }
+        ensures bottom_verdict { ground_above (held result) (P.bottom_verdict result.below) ≡ P.bottom_verdict below }
+        ensures taken { figures_above (held result) (P.taken result.below) ≡ P.taken below }
     {
         Pile {
             below,
@@ -68,7 +68,7 @@ impl<P: Host> Pile<P> {
     /// Takes the pile apart: the host, and the registers as they stood, uppermost first.
     pub fn take_apart(self) -> (P, Vec<Register>)
         ensures parts { (result.0 ≡ self.below) × (result.1 ≡ self.registers) }
-        ensures taken { taken result.0 ≡ figures_above (held self) (taken self.below) }
+        ensures taken { P.taken result.0 ≡ figures_above (held self) (P.taken self.below) }
     {
         let Pile { below, registers } = self;
         (below, registers)
@@ -80,9 +80,9 @@ impl<P: Host> Pile<P> {
         ensures refused { IfErr result (λ y. y.value ≡ register) }
         ensures succeeds { vec_len self.old.registers < vec_capacity self.old.registers → is_ok result ≡ true }
         ensures below { self.new.below ≡ self.old.below }
-        ensures uppermost { registers_above (held self.new) (registers self.new.below) ≡ (if is_ok result then objects (listing register) ∷ registers_above (held self.old) (registers self.old.below) else registers_above (held self.old) (registers self.old.below)) }
-        ensures bottom_verdict { ground_above (held self.new) (bottom_verdict self.new.below) ≡ ground_above (held self.old) (bottom_verdict self.old.below) }
-        ensures taken { figures_above (held self.new) (taken self.new.below) ≡ figures_above (held self.old) (taken self.old.below) }
+        ensures uppermost { registers_above (held self.new) (P.registers self.new.below) ≡ (if is_ok result then objects (listing register) ∷ registers_above (held self.old) (P.registers self.old.below) else registers_above (held self.old) (P.registers self.old.below)) }
+        ensures bottom_verdict { ground_above (held self.new) (P.bottom_verdict self.new.below) ≡ ground_above (held self.old) (P.bottom_verdict self.old.below) }
+        ensures taken { figures_above (held self.new) (P.taken self.new.below) ≡ figures_above (held self.old) (P.taken self.old.below) }
     {
         self.registers.insert(0, register)
     }
@@ -92,8 +92,8 @@ impl<P: Host> Pile<P> {
         ensures piled { self.old.registers.items ≡ option_to_list result ++ self.new.registers.items }
         ensures empty { result ≡ None → self.old.registers.items ≡ [] }
         ensures below { self.new.below ≡ self.old.below }
-        ensures bottom_verdict { ground_above (held self.new) (bottom_verdict self.new.below) ≡ ground_above (held self.old) (bottom_verdict self.old.below) }
-        ensures taken { figures_above (held self.new) (taken self.new.below) ≡ figures_above (held self.old) (taken self.old.below) }
+        ensures bottom_verdict { ground_above (held self.new) (P.bottom_verdict self.new.below) ≡ ground_above (held self.old) (P.bottom_verdict self.old.below) }
+        ensures taken { figures_above (held self.new) (P.taken self.new.below) ≡ figures_above (held self.old) (P.taken self.old.below) }
     {
         if self.registers.is_empty() {
             return None;
@@ -119,10 +119,10 @@ impl<P: Host> Pile<P> {
     pub fn any_pile(&self)
         ensures uppermost { UppermostObjects }
         ensures otherwise { OrElseTheHost }
-        ensures passed { Passed verdict debits }
-        ensures stopped { Stopped verdict debits }
-        ensures figures { FiguresOfTheBottom taken }
-        ensures nested { StackedAsNested verdict debits }
+        ensures passed { Passed P.verdict P.debits }
+        ensures stopped { Stopped P.verdict P.debits }
+        ensures figures { FiguresOfTheBottom P.taken }
+        ensures nested { StackedAsNested P.verdict P.debits }
     {}
 }
 

@@ -29,7 +29,7 @@ impl<R: Row + Copy> Table<R> {
 
     // Where the row that is known by the same parts stands.
     pub(crate) fn position(&self, key: &R) -> Option<usize>
-        ensures value { result ≡ place (same key.now) 0 self.now.rows.items }
+        ensures value { result ≡ place (R.same key.now) 0 self.now.rows.items }
         ensures within { IfSome result (λ i. i < vec_len self.now.rows) }
     {
         for (i, row) in self.rows.iter().enumerate() {
@@ -42,15 +42,15 @@ impl<R: Row + Copy> Table<R> {
 
     /// Whether a row that is known by the same parts is there.
     pub fn contains(&self, key: &R) -> bool
-        ensures { result ≡ is_listed same self.now.rows.items key.now }
+        ensures { result ≡ is_listed R.same self.now.rows.items key.now }
     {
         self.position(key).is_some()
     }
 
     /// Lists a row.
     pub fn list(&mut self, row: R) -> Result<(), Denial>
-        ensures answer { result ≡ list_answer same wide self.old.rows.items row }
-        ensures rows { self.new.rows.items ≡ listed same wide self.old.rows.items row }
+        ensures answer { result ≡ list_answer R.same R.wide self.old.rows.items row }
+        ensures rows { self.new.rows.items ≡ listed R.same R.wide self.old.rows.items row }
         ensures taken { (below : ℕ → ℕ) → figures_above self.new.rows.items below ≡ figures_above self.old.rows.items below }
     {
         if !row.is_wide() {
@@ -68,8 +68,8 @@ impl<R: Row + Copy> Table<R> {
 
     /// Strikes off the row that is known by the same parts as this one; its place is free again.
     pub fn strike(&mut self, key: &R) -> Result<(), Denial>
-        ensures answer { result ≡ strike_answer same wideKey self.old.rows.items key.now }
-        ensures rows { self.new.rows.items ≡ struck same wideKey self.old.rows.items key.now }
+        ensures answer { result ≡ strike_answer R.same R.wide_key self.old.rows.items key.now }
+        ensures rows { self.new.rows.items ≡ struck R.same R.wide_key self.old.rows.items key.now }
         ensures taken { (below : ℕ → ℕ) → figures_above self.new.rows.items below ≡ figures_above self.old.rows.items below }
     {
         if !key.is_wide_key() {

@@ -9,7 +9,7 @@ fallen : (rs : List CeilingRow) (b m i x : ℕ) (r : CeilingRow) → Some i ≡ 
 fallen rs b m i x r e read s = ap (λ (y : ℕ). set rs i (record { biller = r.biller; left = y })) s ∙ sym (at_read (of_biller b) (lowered m) rs i r e read).1
 
 pub returns : goal.returns
-returns c = fallen _ _ _ _ _ _ c.in-Some.ensures.value c.index-mut-row.ensures.value c.saturating_sub-row.ensures
+returns c = fallen _ _ _ _ _ _ c.in-Some.ensures.value c.index_mut-row.ensures.value c.saturating_sub-row.ensures
 
 pub returns-in_default : goal.returns-in_default
 returns-in_default c = sym (at_none (of_biller c.args.biller) (lowered c.args.amount) _ c.in_default.ensures.value (record { biller = 0; left = 0 })).1
