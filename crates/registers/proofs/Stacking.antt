@@ -9,8 +9,8 @@ use Rattle.hosts.specs.Firsts.{either}
 use Rattle.registers.specs.declared.register.Register.{Register}
 use Rattle.registers.specs.Listings.{Listing, listing, objects, fall}
 use Rattle.registers.specs.Piles.{listings, objection, after, Silent, UppermostObjects, OrElseTheHost, StackedAsNested, Passed, Stopped}
-use Rattle.registers.proofs.Objections.{never_settles}
-use Rattle.registers.proofs.Layered.{stays}
+use Rattle.registers.specs.Objections.{never_settles}
+use Rattle.registers.specs.Layered.{stays}
 
 -- The walk over registers rs that looks for an objection, at place i.
 module _ (c : Terms) (rs : List Register) (i : ℕ) where

@@ -1,2 +1,4 @@
 pub mod Listings
 pub mod Piles
+pub mod Objections
+pub mod Layered

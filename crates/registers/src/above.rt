@@ -3,6 +3,7 @@ ghost use Rattle.std.specs.Prelude.{◌≡◌, [], ◌∷◌};
 ghost use Rattle.registers.specs.Listings.{listing, objects};
 ghost use Rattle.tables.specs.Figures.{figures_above};
 ghost use Rattle.registers.specs.Piles.{verdict_above, registers_above, ground_above, Debited};
+ghost use Rattle.registers.specs.Layered.{pile_laws};
 
 use crate::register::Register;
 use claims::claim::Claim;
@@ -46,6 +47,16 @@ impl<P: Host> Host for Above<P> {
     ghost registers = { λ s. registers_above (listing s.register ∷ []) (P.Host.registers s.below) };
 
     ghost bottom_verdict = { λ s. ground_above (listing s.register ∷ []) (P.Host.bottom_verdict s.below) };
+
+    ghost raises = { (pile_laws ⟦<P as Host>⟧ (record { raises = P.Host.raises; figures = P.Host.figures; verdicts = P.Host.verdicts; limit = P.Host.limit; highest = P.Host.uppermost }) (λ s. s.below) (λ s. listing s.register ∷ [])).raises };
+
+    ghost figures = { (pile_laws ⟦<P as Host>⟧ (record { raises = P.Host.raises; figures = P.Host.figures; verdicts = P.Host.verdicts; limit = P.Host.limit; highest = P.Host.uppermost }) (λ s. s.below) (λ s. listing s.register ∷ [])).figures };
+
+    ghost verdicts = { (pile_laws ⟦<P as Host>⟧ (record { raises = P.Host.raises; figures = P.Host.figures; verdicts = P.Host.verdicts; limit = P.Host.limit; highest = P.Host.uppermost }) (λ s. s.below) (λ s. listing s.register ∷ [])).verdicts };
+
+    ghost limit = { (pile_laws ⟦<P as Host>⟧ (record { raises = P.Host.raises; figures = P.Host.figures; verdicts = P.Host.verdicts; limit = P.Host.limit; highest = P.Host.uppermost }) (λ s. s.below) (λ s. listing s.register ∷ [])).limit };
+
+    ghost uppermost = { (pile_laws ⟦<P as Host>⟧ (record { raises = P.Host.raises; figures = P.Host.figures; verdicts = P.Host.verdicts; limit = P.Host.limit; highest = P.Host.uppermost }) (λ s. s.below) (λ s. listing s.register ∷ [])).highest };
 
     fn inquire(&self, claim: &Claim) -> ResultCode {
         if let Some(code) = self.register.objection(claim.terms()) {

@@ -4,6 +4,7 @@ ghost use Rattle.std.specs.Option.{option_to_list};
 ghost use Rattle.registers.specs.Listings.{listing, objects, fall};
 ghost use Rattle.tables.specs.Figures.{figures_above};
 ghost use Rattle.registers.specs.Piles.{listings, held, objection as objection_of, verdict_above, registers_above, ground_above, Debited, FiguresOfTheBottom, UppermostObjects, OrElseTheHost, StackedAsNested, Passed, Stopped};
+ghost use Rattle.registers.specs.Layered.{pile_laws};
 
 use crate::register::Register;
 use claims::claim::Claim;
@@ -136,6 +137,16 @@ impl<P: Host> Host for Pile<P> {
     ghost registers = { λ s. registers_above (held s) (P.Host.registers s.below) };
 
     ghost bottom_verdict = { λ s. ground_above (held s) (P.Host.bottom_verdict s.below) };
+
+    ghost raises = { (pile_laws ⟦<P as Host>⟧ (record { raises = P.Host.raises; figures = P.Host.figures; verdicts = P.Host.verdicts; limit = P.Host.limit; highest = P.Host.uppermost }) (λ s. s.below) (λ s. held s)).raises };
+
+    ghost figures = { (pile_laws ⟦<P as Host>⟧ (record { raises = P.Host.raises; figures = P.Host.figures; verdicts = P.Host.verdicts; limit = P.Host.limit; highest = P.Host.uppermost }) (λ s. s.below) (λ s. held s)).figures };
+
+    ghost verdicts = { (pile_laws ⟦<P as Host>⟧ (record { raises = P.Host.raises; figures = P.Host.figures; verdicts = P.Host.verdicts; limit = P.Host.limit; highest = P.Host.uppermost }) (λ s. s.below) (λ s. held s)).verdicts };
+
+    ghost limit = { (pile_laws ⟦<P as Host>⟧ (record { raises = P.Host.raises; figures = P.Host.figures; verdicts = P.Host.verdicts; limit = P.Host.limit; highest = P.Host.uppermost }) (λ s. s.below) (λ s. held s)).limit };
+
+    ghost uppermost = { (pile_laws ⟦<P as Host>⟧ (record { raises = P.Host.raises; figures = P.Host.figures; verdicts = P.Host.verdicts; limit = P.Host.limit; highest = P.Host.uppermost }) (λ s. s.below) (λ s. held s)).highest };
 
     fn inquire(&self, claim: &Claim) -> ResultCode {
         if let Some(code) = objection(self.registers.as_slice(), claim.terms()) {

@@ -1,10 +1,9 @@
 // Whatever has registers above a host shows them: nothing that is piled can hide.
-ghost use Rattle.std.specs.Prelude.{◌≡◌, ℕ, List, [], ◌∷◌, Option};
+ghost use Rattle.std.specs.Prelude.{refl, ◌≡◌, ℕ, List, [], ◌∷◌, Option};
 ghost use Rattle.claims.specs.declared.terms.Terms.{Terms};
 ghost use Rattle.claims.specs.declared.codes.ResultCode.{ResultCode};
 ghost use Rattle.registers.specs.Listings.{Listing, listing};
 ghost use Rattle.registers.specs.Piles.{held as held_by, ShowsItsRegisters, ShowsTheGroundBelow, ShowsTheFiguresBelow};
-ghost use Rattle.std.proofs.Common.{rules};
 
 use crate::above::Above;
 use crate::pile::Pile;
@@ -50,11 +49,11 @@ impl<P: Host> Piled for Above<P> {
 
     ghost taken_below = { λ s. P.Host.taken s.below };
 
-    ghost shows_itself = { Prim.search rules };
+    ghost shows_itself = { λ _. refl };
 
-    ghost shows_ground = { Prim.search rules };
+    ghost shows_ground = { λ _ _. refl };
 
-    ghost shows_figures = { Prim.search rules };
+    ghost shows_figures = { λ _ _. refl };
 }
 
 impl<P: Host> Piled for Pile<P> {
@@ -72,9 +71,9 @@ impl<P: Host> Piled for Pile<P> {
 
     ghost taken_below = { λ s. P.Host.taken s.below };
 
-    ghost shows_itself = { Prim.search rules };
+    ghost shows_itself = { λ _. refl };
 
-    ghost shows_ground = { Prim.search rules };
+    ghost shows_ground = { λ _ _. refl };
 
-    ghost shows_figures = { Prim.search rules };
+    ghost shows_figures = { λ _ _. refl };
 }

@@ -9,7 +9,7 @@ use Rattle.hosts.specs.Layers.{Laws, layered}
 use Rattle.registers.specs.Listings.{Listing, objects, fall}
 use Rattle.tables.specs.Figures.{figures_above}
 use Rattle.registers.specs.Piles.{verdict_above, registers_above, ground_above, after, Debited}
-use Rattle.registers.proofs.Objections.{never_settles}
+use Rattle.registers.specs.Objections.{never_settles}
 
 -- nothing falls unless the host below settled
 pub stays : (c : Terms) (k : ResultCode) (ls : List Listing) → (k ≡ Settled → ⊥) → after c k ls ≡ ls
