@@ -11,7 +11,6 @@ use registers::above::Above;
 use registers::pile::Pile;
 use registers::register::Register;
 use std::alloc::Global;
-use std::process::Abort;
 use std::test::Fail;
 use tables::rows::{AccountRow, CeilingRow, CustomerRow};
 use tables::table::Table;
@@ -78,9 +77,9 @@ fn account_row(account: u64) -> AccountRow {
     }
 }
 
-fn holder_stop(rt: &impl Abort, heap: Global) -> Result<Register, Fail> {
+fn holder_stop(heap: Global) -> Result<Register, Fail> {
     let mut table = Table::new(heap)?;
-    assert_eq!(rt; table.list(account_row(ACCOUNT)), Ok(()));
+    table.list(account_row(ACCOUNT))?;
     Ok(Register::HolderStop(table))
 }
 
@@ -89,15 +88,12 @@ fn no_mandates(heap: Global) -> Result<Register, Fail> {
     Ok(Register::Mandates(table))
 }
 
-fn ceiling(rt: &impl Abort, heap: Global, left: u64) -> Result<Register, Fail> {
+fn ceiling(heap: Global, left: u64) -> Result<Register, Fail> {
     let mut table = Table::new(heap)?;
-    assert_eq!(rt;
-        table.list(CeilingRow {
-            biller: BILLER,
-            left,
-        }),
-        Ok(())
-    );
+    table.list(CeilingRow {
+        biller: BILLER,
+        left,
+    })?;
     Ok(Register::Ceiling(table))
 }
 
@@ -184,7 +180,7 @@ fn the_hundred_thousandth_sheet_row_counts_and_the_next_does_not(
 fn a_stop_above_a_missing_mandate_gives_3(rt: HostRuntime) -> Result<(), Fail> {
     let heap = rt.alloc();
     let mandates = Above::pile(no_mandates(heap)?, ledger_of(heap, 1_500, 0)?);
-    let pile = Above::pile(holder_stop(&rt, heap)?, mandates);
+    let pile = Above::pile(holder_stop(heap)?, mandates);
     assert_eq!(rt;
         pile.inquire(&claim_of(1_500)?),
         ResultCode::StoppedByHolder
@@ -195,7 +191,7 @@ fn a_stop_above_a_missing_mandate_gives_3(rt: HostRuntime) -> Result<(), Fail> {
 #[test]
 fn a_missing_mandate_above_a_stop_gives_4(rt: HostRuntime) -> Result<(), Fail> {
     let heap = rt.alloc();
-    let stop = Above::pile(holder_stop(&rt, heap)?, ledger_of(heap, 1_500, 0)?);
+    let stop = Above::pile(holder_stop(heap)?, ledger_of(heap, 1_500, 0)?);
     let pile = Above::pile(no_mandates(heap)?, stop);
     assert_eq!(rt; pile.inquire(&claim_of(1_500)?), ResultCode::NoMandate);
     Ok(())
@@ -205,8 +201,8 @@ fn a_missing_mandate_above_a_stop_gives_4(rt: HostRuntime) -> Result<(), Fail> {
 fn a_ceiling_falls_only_with_what_settles(rt: HostRuntime) -> Result<(), Fail> {
     let heap = rt.alloc();
     let mut pile = Pile::new(heap, ledger_of(heap, 1_600, 0)?);
-    pile.put(ceiling(&rt, heap, 2_000)?)?;
-    pile.put(ceiling(&rt, heap, 1_700)?)?;
+    pile.put(ceiling(heap, 2_000)?)?;
+    pile.put(ceiling(heap, 1_700)?)?;
     assert_eq!(rt; pile.debit(&claim_of(1_700)?), ResultCode::ShortOfFunds);
     assert_eq!(rt; pile.debit(&claim_of(1_500)?), ResultCode::Settled);
     assert_eq!(rt; pile.debit(&claim_of(201)?), ResultCode::Other);
@@ -219,7 +215,7 @@ fn a_ceiling_falls_only_with_what_settles(rt: HostRuntime) -> Result<(), Fail> {
 fn a_ceiling_of_1500_lets_1500_settle_and_then_objects_to_1(rt: HostRuntime) -> Result<(), Fail> {
     let heap = rt.alloc();
     let mut pile = Pile::new(heap, ledger_of(heap, 5_000, 0)?);
-    pile.put(ceiling(&rt, heap, 1_500)?)?;
+    pile.put(ceiling(heap, 1_500)?)?;
     assert_eq!(rt; pile.debit(&claim_of(1_500)?), ResultCode::Settled);
     assert_eq!(rt; pile.debit(&claim_of(1)?), ResultCode::Other);
     Ok(())
@@ -278,7 +274,7 @@ fn a_biller_has_one_ceiling(rt: HostRuntime) -> Result<(), Fail> {
         table.strike(&CeilingRow {
             biller: BILLER,
             left: LIMIT + 1,
-        },),
+        }),
         Ok(())
     );
     assert_eq!(rt;

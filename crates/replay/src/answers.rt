@@ -36,7 +36,9 @@ fn layer_name(layer: Layer) -> &'static str {
         Layer::Order => "order",
         Layer::Record => "record",
         Layer::Totals => "totals",
+        Layer::Run => "run",
         Layer::Number => "number",
         Layer::Register => "register",
+        Layer::Accounts => "accounts",
     }
 }
