@@ -1,4 +1,4 @@
-// The check for a program in C; include/zengin.h declares it.
+// The check in one number, as a program in C receives it; the crate zengin_c exports it.
 ghost use Rattle.std.specs.Prelude.{◌≡◌, Err};
 ghost use Rattle.zengin.specs.Judged.{judged, coded};
 ghost use Rattle.zengin.specs.Lawful.{Lawful};
@@ -22,8 +22,7 @@ fn in_one_number(judgement: Result<(), Denial>) -> u64
 }
 
 /// 0 for a lawful file, else the denial's number × 100,000,000 + record × 1,000 + column.
-#[unsafe(no_mangle)]
-pub extern "C" fn zengin_check(file: &[u8]) -> u64
+pub fn zengin_check(file: &[u8]) -> u64
     ensures answer { result ≡ coded (judged file.now) }
     ensures passes { result ≡ 0 → Lawful file.now }
     ensures lawful { Lawful file.now → result ≡ 0 }
