@@ -1,6 +1,6 @@
 -- Raw bytes and bare files: what unpacking and packing answer, and what they leave in the caller's buffer.
 use Rattle.std.specs.Prelude.{◌≡◌, ℕ, ◌+◌, ◌-◌, ◌*◌, ◌/◌, ◌≤◌, Bool, false, cond, not, ◌&&◌, ◌||◌, [], ◌∷◌, ◌++◌, length, take, drop, Some, None, Ok, Err, filter, Option, Result, ◌==◌, nat_lt, slice_index}
-use Rattle.std.specs.List.{flat_map, AllByRecursion as All}
+use Rattle.std.specs.List.{flat_map, AllByRecursion}
 use Rattle.denials.specs.declared.Denial.{Denial}
 use Rattle.denials.specs.declared.Denial.TheVariants.{ShortBuffer}
 use Rattle.records.specs.Layouts.{record_bytes}
@@ -75,7 +75,7 @@ pack_buffer b out = buffer_after (pack_answer b (length out)) (packed b) out
 
 -- no byte is one of a line end
 abbrev pub Plain : Bytes → Type 0
-Plain b = All (λ x. is_line_end x ≡ false) b
+Plain b = AllByRecursion (λ x. is_line_end x ≡ false) b
 
 -- packing told n: the first n bytes that it left unpack to the bare file, into every buffer that has room for it
 pub record Restores (b : Bytes) (told : Result ℕ Denial) (out : Bytes) : Type 0 where

@@ -1,6 +1,6 @@
 -- The rules are computed on each marked file, and what they answer is what the list says.
 use Rattle.std.proofs.Common.{◌≡◌, List, [], ◌∷◌, map, Ok, Err, Result, refl, subst}
-use Rattle.std.specs.List.{AllByRecursion as All}
+use Rattle.std.specs.List.{AllByRecursion}
 use Rattle.denials.specs.declared.Denial.{Denial}
 use Rattle.denials.specs.Denials.{told}
 use Rattle.records.specs.Fields.{Bytes, first_wrong_byte, number}
@@ -18,7 +18,7 @@ by_result : (b : Bytes) (r : Result Figures Denial) → r ≡ summed b → Answe
 by_result b (Ok figures) e = record { figures = figures; asking = passes_lawful b (Ok figures) e figures refl }
 by_result b (Err d) e = record { denial = d; first = denies_first b (Err d) e d refl; tells_so = refl }
 
-each : (ms : List Marked) → map (λ m. answer_of (summed m.file)) ms ≡ map (λ m. m.answer) ms → All (λ m. Answered m.file m.answer) ms
+each : (ms : List Marked) → map (λ m. answer_of (summed m.file)) ms ≡ map (λ m. m.answer) ms → AllByRecursion (λ m. Answered m.file m.answer) ms
 each [] e = tt
 each (m ∷ ms) e =
     let here : answer_of (summed m.file) ≡ m.answer = cc in

@@ -1,6 +1,6 @@
 -- Files that show the rules, as one list, each with the answer that the rules give it.
 use Rattle.std.specs.Prelude.{◌≡◌, ℕ, ◌+◌, ◌-◌, List, [], ◌∷◌, ◌++◌, replicate, codes, slice_set}
-use Rattle.std.specs.List.{AllByRecursion as All}
+use Rattle.std.specs.List.{AllByRecursion}
 use Rattle.denials.specs.declared.Denial.{Denial}
 use Rattle.denials.specs.declared.Layer.{Layer}
 use Rattle.denials.specs.declared.Layer.TheVariants.{Carrier, Order, Record, Totals}
@@ -87,4 +87,4 @@ Answered b (denied n layer r col) = DeniedFor b n layer r col
 
 -- the rules give each marked file its answer
 unfoldable pub MarkedAnswered : Type 0
-MarkedAnswered = All (λ m. Answered m.file m.answer) marked
+MarkedAnswered = AllByRecursion (λ m. Answered m.file m.answer) marked
