@@ -1,11 +1,10 @@
 // The ledger: a host over rows of account, balance and taken figure. The first row with the account counts.
-ghost use Rattle.std.specs.Prelude.{◌≡◌, ◌<◌, ◌≤◌, true, [], ◌∷◌, ◌++◌, IfSome, is_ok, IfErr, if◌then◌else◌, vec_len, vec_capacity};
+ghost use Rattle.std.specs.Prelude.{refl, ◌≡◌, ◌<◌, ◌≤◌, true, [], ◌∷◌, ◌++◌, IfSome, is_ok, IfErr, if◌then◌else◌, vec_len, vec_capacity};
 ghost use Rattle.claims.specs.declared.codes.ResultCode.TheVariants.{Settled};
 ghost use Rattle.claims.specs.Widths.{ten_digits};
 ghost use Rattle.hosts.specs.Firsts.{place};
 ghost use Rattle.hosts.specs.Ledgers.{of_account, row_verdict, drawn, ledger_verdict, ledger_taken, ledger_after};
 ghost use Rattle.hosts.specs.LedgersLemmas.{ledger_laws};
-ghost use Rattle.std.proofs.Common.{rules};
 
 use crate::host::{FIGURE_LIMIT, Host};
 use claims::claim::Claim;
@@ -105,7 +104,7 @@ impl Host for Ledger {
 
     ghost limit = { λ s. ledger_laws.limit s.rows.items };
 
-    ghost uppermost = { Prim.search rules };
+    ghost uppermost = { λ _ _ _. refl };
 
     fn inquire(&self, claim: &Claim) -> ResultCode {
         let terms = claim.terms();

@@ -1,9 +1,8 @@
 // The sheet: a host that answers from rows written beforehand. The first unspent row equal to the claim answers, and settling spends it.
-ghost use Rattle.std.specs.Prelude.{◌≡◌, ◌<◌, true, [], ◌∷◌, ◌++◌, length, IfSome, is_ok, IfErr, if◌then◌else◌, vec_len, vec_capacity};
+ghost use Rattle.std.specs.Prelude.{refl, ◌≡◌, ◌<◌, true, [], ◌∷◌, ◌++◌, length, IfSome, is_ok, IfErr, if◌then◌else◌, vec_len, vec_capacity};
 ghost use Rattle.hosts.specs.Firsts.{place};
 ghost use Rattle.hosts.specs.Sheets.{counted, answers, row_code, figure, spend, sheet_verdict, sheet_taken, sheet_after};
 ghost use Rattle.hosts.specs.SheetsLemmas.{sheet_laws};
-ghost use Rattle.std.proofs.Common.{rules};
 
 use crate::host::Host;
 use claims::claim::Claim;
@@ -136,7 +135,7 @@ impl Host for Sheet {
 
     ghost limit = { λ s. sheet_laws.limit s.rows.items };
 
-    ghost uppermost = { Prim.search rules };
+    ghost uppermost = { λ _ _ _. refl };
 
     fn inquire(&self, claim: &Claim) -> ResultCode {
         let Some(i) = self.position(claim.terms()) else {

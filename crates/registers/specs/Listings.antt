@@ -1,5 +1,5 @@
 -- A register by what it lists: to which claims it objects and with which code, and how a ceiling falls.
-use Rattle.std.specs.Prelude.{ℕ, ◌-◌, cond, List, Some, None, vec_items, Option, nat_lt}
+use Rattle.std.specs.Prelude.{ℕ, cond, List, Some, None, vec_items, Option, nat_lt}
 use Rattle.claims.specs.declared.terms.Terms.{Terms}
 use Rattle.claims.specs.declared.codes.ResultCode.{ResultCode}
 use Rattle.claims.specs.declared.codes.ResultCode.TheVariants.{StoppedByHolder, NoMandate, StoppedByBiller, Other}
