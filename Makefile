@@ -12,13 +12,10 @@ demo: target/bin/inspect target/bin/replay
 	@echo "A script of calls on hosts and registers, and its answers:"
 	@cd samples/stop-above-mandates && cat SCRIPT.TXT && ../../target/bin/replay
 
-SOURCES = $(shell find crates -name '*.rt' -o -name '*.antt')
+SOURCES = $(shell find crates -path '*/out' -prune -o \( -name '*.rt' -o -name '*.antt' \) -print)
 
-target/bin/inspect: $(SOURCES)
-	rt check inspect
-
-target/bin/replay: $(SOURCES)
-	rt check replay
+target/bin/inspect target/bin/replay &: $(SOURCES)
+	tools/build
 
 test:
 	.ci/run
@@ -27,7 +24,6 @@ test:
 CASES = 40000
 START = 1
 compare: target/bin/inspect target/bin/replay
-	rt staticlib zengin
 	tools/compare $(CASES) $(START)
 
 # The time to prove each crate from nothing, recorded in docs/TIMES.md.
