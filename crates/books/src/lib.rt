@@ -1,8 +1,7 @@
 // A ledger and a sheet side by side, of which one is in use as the bottom host. The other keeps its rows meanwhile.
 #![tactic(auto)]
 
-ghost use Rattle.std.specs.Prelude.{refl, ◌≡◌, ◌<◌, true, [], is_ok, IfErr, if◌then◌else◌, vec_len, vec_capacity};
-ghost use Rattle.books.specs.declared.Bottom.TheVariants as bottom;
+ghost use Rattle.std.specs.Prelude.{◌≡◌, ◌<◌, true, [], is_ok, IfErr, if◌then◌else◌, vec_len, vec_capacity, refl};
 ghost use Rattle.books.specs.Books.{rows_of, no_rows, with_ledger_row, with_sheet_row, with_bottom, books_verdict, books_taken, books_after};
 ghost use Rattle.books.specs.Booking.{books_laws};
 

@@ -113,8 +113,8 @@ module _ {X : Type 0} (n : ℕ) (xs : List X) where
   pub set_front : (i : ℕ) (y : X) → i < length (take n xs) → slice_set xs i y ≡ slice_set (take n xs) i y ++ drop n xs
   set_front i y l = ap (λ (z : List X). set z i y) (sym (take-append-drop n xs)) ∙ set-append_left (take n xs) (drop n xs) i y l
 
-  pub get_d_front : (i : ℕ) (d : X) → i < length (take n xs) → slice_index_or xs i d ≡ slice_index_or (take n xs) i d
-  get_d_front i d l = ap (λ (z : List X). get_or z i d) (sym (take-append-drop n xs)) ∙ get_or_append_left (take n xs) (drop n xs) d i l
+  pub get_or_front : (i : ℕ) (d : X) → i < length (take n xs) → slice_index_or xs i d ≡ slice_index_or (take n xs) i d
+  get_or_front i d l = ap (λ (z : List X). get_or z i d) (sym (take-append-drop n xs)) ∙ get_or_append_left (take n xs) (drop n xs) d i l
 
 -- an element passes somewhere exactly if there is a first that passes
 module _ {X : Type 0} (p : X → Bool) where

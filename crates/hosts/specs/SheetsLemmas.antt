@@ -13,7 +13,7 @@ use Rattle.hosts.specs.Meaning.{share}
 use Rattle.hosts.specs.Firsts.{first, at_first, place, either}
 use Rattle.hosts.specs.Sheets.{counted, answers, row_code, figure, spend, sheet_verdict, sheet_taken, sheet_after}
 use Rattle.hosts.specs.Layers.{Laws}
-use Rattle.hosts.specs.FirstsLemmas.{at_read, at_none, sum_first, first_true, length_at_first, take_front, set_front, get_d_front}
+use Rattle.hosts.specs.FirstsLemmas.{at_read, at_none, sum_first, first_true, length_at_first, take_front, set_front, get_or_front}
 use Rattle.claims.proofs.Settling.{not_settled}
 
 settled_rows : (rs : List SheetRow) (c : Terms) → sheet_verdict rs c ≡ Settled → sheet_after rs c ≡ at_first (answers c) spend (counted rs) ++ drop 100000 rs
@@ -89,13 +89,13 @@ module _ (rs : List SheetRow) (t c : Terms) (told : t ≡ c) where
   module _ (i : ℕ) (r : SheetRow) (e : Some i ≡ place (answers t) 0 (counted rs)) (l : i < length (counted rs)) (read : r ≡ slice_index_or rs i r) where
     pub says : row_code r ≡ sheet_verdict rs c
     says =
-        let f = (at_read (answers t) spend (counted rs) i r e (read ∙ get_d_front 100000 rs i r l)).0 in
+        let f = (at_read (answers t) spend (counted rs) i r e (read ∙ get_or_front 100000 rs i r l)).0 in
         let v : row_code r ≡ sheet_verdict rs t = rw f in
         v ∙ ap (sheet_verdict rs) told
 
     pub settled : row_code r ≡ Settled → slice_set rs i (spend r) ≡ sheet_after rs c
     settled v =
-        let f = (at_read (answers t) spend (counted rs) i r e (read ∙ get_d_front 100000 rs i r l)).1 in
+        let f = (at_read (answers t) spend (counted rs) i r e (read ∙ get_or_front 100000 rs i r l)).1 in
         set_front 100000 rs i (spend r) l ∙ ap (λ (x : List SheetRow). x ++ drop 100000 rs) (sym f) ∙ ap (λ (x : Terms). at_first (answers x) spend (counted rs) ++ drop 100000 rs) told ∙ sym (settled_rows rs c (sym says ∙ v))
 
     pub refused : (row_code r ≢ Settled) → slice_set rs i r ≡ sheet_after rs c

@@ -1,5 +1,5 @@
 // The ledger: a host over rows of account, balance and taken figure. The first row with the account counts.
-ghost use Rattle.std.specs.Prelude.{refl, ◌≡◌, ◌<◌, ◌≤◌, true, [], ◌∷◌, ◌++◌, IfSome, is_ok, IfErr, if◌then◌else◌, vec_len, vec_capacity};
+ghost use Rattle.std.specs.Prelude.{◌≡◌, ◌<◌, ◌≤◌, true, [], ◌∷◌, ◌++◌, IfSome, is_ok, IfErr, if◌then◌else◌, vec_len, vec_capacity, refl};
 ghost use Rattle.claims.specs.declared.codes.ResultCode.TheVariants.{Settled};
 ghost use Rattle.claims.specs.Widths.{ten_digits};
 ghost use Rattle.hosts.specs.Firsts.{place};

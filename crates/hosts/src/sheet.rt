@@ -1,5 +1,5 @@
 // The sheet: a host that answers from rows written beforehand. The first unspent row equal to the claim answers, and settling spends it.
-ghost use Rattle.std.specs.Prelude.{refl, ◌≡◌, ◌<◌, true, [], ◌∷◌, ◌++◌, length, IfSome, is_ok, IfErr, if◌then◌else◌, vec_len, vec_capacity};
+ghost use Rattle.std.specs.Prelude.{◌≡◌, ◌<◌, true, [], ◌∷◌, ◌++◌, length, IfSome, is_ok, IfErr, if◌then◌else◌, vec_len, vec_capacity, refl};
 ghost use Rattle.hosts.specs.Firsts.{place};
 ghost use Rattle.hosts.specs.Sheets.{counted, answers, row_code, figure, spend, sheet_verdict, sheet_taken, sheet_after};
 ghost use Rattle.hosts.specs.SheetsLemmas.{sheet_laws};

@@ -19,7 +19,7 @@ pub fn print_refusal(rt: &HostRuntime, file: &[u8], denial: Denial) -> io::Resul
         }
         Denial::TooManyRecords => println!(rt; "The file has more than 10,000 records."),
         Denial::Faulty(fault) => print_fault(rt, file, fault, column),
-        // What a call on a register or with a claim is denied for; a file never is.
+        // What other calls are denied for: this program's never are.
         _ => println!(rt; "The file cannot be read."),
     }
 }

@@ -29,7 +29,7 @@ verdict_above ls c below = unwrap_or (objection ls c) below
 abbrev pub registers_above : List Listing → List (Terms → Option ResultCode) → List (Terms → Option ResultCode)
 registers_above ls below = map objects ls ++ below
 
--- the bottom host is that of the host below
+-- the ground, which is what the bottom host says, is that of the host below
 abbrev pub ground_above : List Listing → (Terms → ResultCode) → Terms → ResultCode
 ground_above ls below = below
 

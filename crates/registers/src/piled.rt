@@ -1,5 +1,5 @@
 // Whatever has registers above a host shows them: nothing that is piled can hide.
-ghost use Rattle.std.specs.Prelude.{refl, ◌≡◌, ℕ, List, [], ◌∷◌, Option};
+ghost use Rattle.std.specs.Prelude.{ℕ, List, [], ◌∷◌, Option, refl};
 ghost use Rattle.claims.specs.declared.terms.Terms.{Terms};
 ghost use Rattle.claims.specs.declared.codes.ResultCode.{ResultCode};
 ghost use Rattle.registers.specs.Listings.{Listing, listing};
