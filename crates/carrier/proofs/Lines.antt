@@ -2,11 +2,11 @@
 use Rattle.std.proofs.Common.{◌≡◌, ℕ, zero, suc, ◌+◌, ◌*◌, ◌/◌, ◌<◌, ◌≤◌, List, [], ◌∷◌, ◌++◌, length, get_or, take, drop, sym, refl, ap, ◌∙◌, arith}
 use Rattle.std.specs.Simd.{first_chunks}
 use Rattle.std.specs.List.{flat_map}
-use Rattle.std.proofs.lemmas.List.{append_assoc, flat_map_more, length-append, length-drop, length-take-le, take_all, take_more}
+use Rattle.std.proofs.lemmas.List.{append_assoc, flat_map_more, length-append, length-drop, length-take-le, take_more}
 use Rattle.records.specs.Fields.{Bytes}
 use Rattle.zengin.specs.Files.{records_of}
 use Rattle.zengin.proofs.Walks.{record_item}
-use Rattle.carrier.specs.Carrier.{line_end, line, packed, over, put}
+use Rattle.carrier.specs.Carrier.{line_end, line, over, put}
 use Rattle.carrier.proofs.Buffers.{over_put}
 
 -- as many records as are whole
@@ -40,7 +40,3 @@ lines_more b old out rs i all on is =
     ∙ ap (put (i * 122 + 120) line_end) (over_put new x old (i * 122) here)
     ∙ over_put (new ++ x) line_end old (i * 122 + 120) (omega (arith, length-append new x, here, records_long b i there))
     ∙ ap (λ l. over l old) (append_assoc new x line_end ∙ flat_map_more line [] (take i (records_of b)) x ∙ ap (flat_map line) (sym (take_more (records_of b) i [] there)))
-
--- all lines stand over the front
-pub lines_all : (b old out : Bytes) (rs : List Bytes) (i : ℕ) → rs ≡ records_of b → length rs ≤ i → out ≡ over (flat_map line (take i (records_of b))) old → out ≡ over (packed b) old
-lines_all b old out rs i all end is = is ∙ ap (λ l. over (flat_map line l) old) (take_all i (records_of b) (omega (arith, ap length all)))

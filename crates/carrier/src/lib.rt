@@ -8,7 +8,7 @@ ghost use Rattle.carrier.specs.Carrier.{line_bytes, is_line_end, is_kept, body a
 
 use denials::Denial;
 use records::layouts::RECORD_BYTES;
-use zengin::lengths::{length_denial, records_of};
+use zengin::lengths::{check_length, records_of};
 
 const CARRIAGE_RETURN: u8 = 0x0d;
 
@@ -41,39 +41,30 @@ fn body_of(raw: &[u8]) -> &[u8]
 fn bare_len(body: &[u8]) -> usize
     ensures { result ≡ length (filter is_kept body.now) }
 {
-    let mut len = 0;
-    for byte in body {
-        if !is_line_end(*byte) {
-            len += 1;
-        }
-    }
-    len
+    body.iter().filter(|byte| !is_line_end(**byte)).count()
 }
 
-// Writes the bare file over the front of `out`.
+// Writes the bare file over the front of `out`, by the place of each byte that is kept: of a walk over `out` itself the prover would
+// not know what it wrote.
 fn copy_bare(body: &[u8], out: &mut [u8])
     requires { length (filter is_kept body.now) ≤ length out.old }
     ensures { out.new ≡ over (filter is_kept body.now) out.old }
 {
-    let mut at = 0;
-    for byte in body {
-        if !is_line_end(*byte) {
-            out[at] = *byte;
-            at += 1;
-        }
+    let kept = body.iter().filter(|byte| !is_line_end(**byte));
+    for (at, byte) in kept.enumerate() {
+        out[at] = *byte;
     }
 }
 
 /// Writes the bare file over the front of `out`, and tells its length. It is counted first, so that a denied call writes nothing.
+/// The buffer is the caller's, and its used length is told beside it, since carrying a file allocates nothing.
 pub fn unpack(raw: &[u8], out: &mut [u8]) -> Result<usize, Denial>
     ensures answer { result ≡ unpack_answer raw.now (length out.old) }
     ensures buffer { out.new ≡ unpack_buffer raw.now out.old }
 {
     let body = body_of(raw);
     let len = bare_len(body);
-    if let Some(denial) = length_denial(len) {
-        return Err(denial);
-    }
+    check_length(len)?;
     if out.len() < len {
         return Err(Denial::ShortBuffer);
     }
@@ -91,7 +82,8 @@ fn put_line(record: &[u8; 120], out: &mut [u8], at: usize)
     out[end..at + LINE_BYTES].copy_from_slice(&LINE_END);
 }
 
-// Writes each record of a bare file as a line, over the front of `out`.
+// Writes each record of a bare file as a line, over the front of `out`. A walk over `out` by chunks was tried: once they are given
+// back, the prover knows their lengths and not their bytes.
 fn put_lines(bare: &[u8], out: &mut [u8])
     requires { length bare.now / 120 * 122 ≤ length out.old }
     ensures { out.new ≡ over (packed bare.now) out.old }
@@ -106,9 +98,7 @@ fn pack_records(bare: &[u8], out: &mut [u8]) -> Result<usize, Denial>
     ensures answer { result ≡ pack_answer bare.now (length out.old) }
     ensures buffer { out.new ≡ pack_buffer bare.now out.old }
 {
-    if let Some(denial) = length_denial(bare.len()) {
-        return Err(denial);
-    }
+    check_length(bare.len())?;
     let packed_len = bare.len() / RECORD_BYTES * LINE_BYTES;
     if out.len() < packed_len {
         return Err(Denial::ShortBuffer);

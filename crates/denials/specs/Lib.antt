@@ -1,1 +1,2 @@
 pub mod Denials
+pub mod Printed

@@ -5,6 +5,9 @@ ghost use Rattle.std.specs.Prelude.{◌≡◌};
 ghost use Rattle.denials.specs.declared.RunDenial.TheVariants.{Broken};
 ghost use Rattle.denials.specs.Denials.{told, told_at, told_in_run, carried, tells};
 
+use std::error::Error;
+use std::fmt;
+
 /// The part of the engine whose rule was broken.
 #[derive(Clone, Copy, Debug, PartialEq, Eq)]
 pub enum Layer {
@@ -16,6 +19,26 @@ pub enum Layer {
     Number,
     Register,
     Accounts,
+}
+
+impl fmt::Display for Layer {
+    ghost use Rattle.std.specs.Prelude.{Some};
+    ghost use Rattle.denials.specs.Printed.{layer_text};
+
+    ghost output = { λ layer. Some (layer_text layer) };
+
+    fn fmt<W: fmt::Write>(&self, f: &mut fmt::Formatter<W>) -> fmt::Result {
+        f.write_str(match self {
+            Layer::Carrier => "carrier",
+            Layer::Order => "order",
+            Layer::Record => "record",
+            Layer::Totals => "totals",
+            Layer::Run => "run",
+            Layer::Number => "number",
+            Layer::Register => "register",
+            Layer::Accounts => "accounts",
+        })
+    }
 }
 
 /// What is wrong in a record. Columns count from 1.
@@ -94,6 +117,7 @@ pub enum Denial {
 /// What a denial tells: its number, its layer and its place, which is 0 and 0 where it has none.
 #[derive(Clone, Copy, Debug, PartialEq, Eq)]
 pub struct Told {
+    // The format's own number for the denial, made from the enum by `told`; 0 and 0 are its words for no place.
     pub number: u8,
     pub layer: Layer,
     pub record: usize,
@@ -157,6 +181,25 @@ impl Denial {
         }
     }
 }
+
+/// The four things that the denial tells: `31 register 0 0`.
+impl fmt::Display for Denial {
+    ghost use Rattle.std.specs.Prelude.{Some};
+    ghost use Rattle.denials.specs.Printed.{denial_text};
+
+    ghost output = { λ denial. Some (denial_text denial) };
+
+    fn fmt<W: fmt::Write>(&self, f: &mut fmt::Formatter<W>) -> fmt::Result {
+        let told = self.told();
+        write!(
+            f,
+            "{} {} {} {}",
+            told.number, told.layer, told.record, told.column
+        )
+    }
+}
+
+impl Error for Denial {}
 
 fn tells(number: u8, layer: Layer, record: usize, column: usize) -> Told
     ensures { result ≡ tells number layer «record» column }

@@ -6,13 +6,14 @@ mod refusals;
 mod requests;
 
 use carrier::unpack;
+use inputs::read_or_empty;
 use refusals::print_refusal;
-use requests::{print_request, read_request};
+use requests::print_request;
 use std::io;
 use zengin::check::summary;
 
 fn main(rt: HostRuntime) -> io::Result<()> {
-    let raw = read_request(&rt)?;
+    let raw = read_or_empty(&rt, "REQUEST.TXT")?;
     let mut buffer = vec![in rt.alloc(); 0u8; raw.len()]?;
     match unpack(raw.as_slice(), buffer.as_mut_slice()) {
         Ok(len) => {

@@ -1,16 +1,15 @@
 // A refused request: the denial on the first line, and then in words what is wrong, in which record and field.
 use crate::names::{field_name, sort_name};
 use denials::{Denial, Fault, RecordFault};
-use records::layouts::{field_covering, sort_of};
+use records::layouts::{Sort, field_covering};
 use std::io;
 use zengin::shown::{numbered_record, shown_field};
 
+// Runtime and file are passed apart: a struct of the two would be made for one call and taken apart in it. The lines are this program's own,
+// so they are written here, and no type prints itself as one.
 pub fn print_refusal(rt: &HostRuntime, file: &[u8], denial: Denial) -> io::Result<()> {
     let told = denial.told();
-    let number = told.number;
-    let record = told.record;
-    let column = told.column;
-    println!(rt; "REFUSED {number} {record} {column}")?;
+    println!(rt; "REFUSED {} {} {}", told.number, told.record, told.column)?;
     match denial {
         Denial::BareLength => {
             println!(rt;
@@ -18,7 +17,7 @@ pub fn print_refusal(rt: &HostRuntime, file: &[u8], denial: Denial) -> io::Resul
             )
         }
         Denial::TooManyRecords => println!(rt; "The file has more than 10,000 records."),
-        Denial::Faulty(fault) => print_fault(rt, file, fault, column),
+        Denial::Faulty(fault) => print_fault(rt, file, fault, told.column),
         // What other calls are denied for: this program's never are.
         _ => println!(rt; "The file cannot be read."),
     }
@@ -31,7 +30,7 @@ fn print_fault(rt: &HostRuntime, file: &[u8], at: RecordFault, column: usize) ->
         return println!(rt; "Record {record} is missing: the file ends before its end record.");
     };
     let first = bytes[0];
-    let Some(sort) = sort_of(first) else {
+    let Ok(sort) = Sort::try_from(first) else {
         return println!(rt;
             "Record {record} begins with byte {first:02X}h, which is no sort of record."
         );
@@ -55,7 +54,7 @@ fn print_fault(rt: &HostRuntime, file: &[u8], at: RecordFault, column: usize) ->
 }
 
 fn print_byte(rt: &HostRuntime, record: &[u8; 120], column: usize) -> io::Result<()> {
-    match record.get(column.wrapping_sub(1)) {
+    match column.checked_sub(1).and_then(|index| record.get(index)) {
         Some(byte) => println!(rt; "byte {byte:02X}h may not stand here."),
         None => println!(rt; "a byte may not stand here."),
     }

@@ -1,5 +1,5 @@
 -- Every row of the four layouts is sound, by one test that is computed over each table.
-use Rattle.std.proofs.Common.{◌≡◌, ℕ, zero, suc, ◌+◌, ◌-◌, ◌<◌, ◌≤◌, Bool, true, false, cond, ◌&&◌, ◌||◌, eqb, ltb, leb, List, [], ◌∷◌, length, get_or, Some, None, sym, refl, ap, ◌∙◌, subst, arith}
+use Rattle.std.proofs.Common.{◌≡◌, ℕ, zero, suc, ◌+◌, ◌-◌, ◌<◌, ◌≤◌, Bool, true, false, cond, ◌&&◌, ◌||◌, eqb, ltb, leb, List, [], ◌∷◌, length, get_or, Some, None, Option, IfSome, sym, refl, ap, ◌∙◌, subst, arith}
 use Rattle.std.proofs.lemmas.Bool.{and_parts, leb-true, le-ltb, ltb-false, ne_eqb, eqb-false}
 use Rattle.records.specs.declared.layouts.Sort.{Sort}
 use Rattle.records.specs.declared.layouts.Sort.TheVariants.{Header, Data, Trailer, End}
@@ -57,3 +57,7 @@ pub numbered_sound : (k : Sort) (n : ℕ) (f : Field) → numbered k n ≡ Some 
 numbered_sound k n f e =
     let p = numbered_row (fields_of k) n f e in
     subst (λ g. is_sound g ≡ true) (sym p.2) (each_sound (fields_of k) (tables_sound k) (n - 1) (field 0 0 Number Any) (omega (arith, p.0, p.1)))
+
+pub numbered_inside : (k : Sort) (n : ℕ) (o : Option Field) → o ≡ numbered k n → IfSome o Inside
+numbered_inside k n None e = tt
+numbered_inside k n (Some f) e = sound_inside f (numbered_sound k n f (sym e))

@@ -1,5 +1,6 @@
 -- One field of one record, and one record by itself. A record is its 120 bytes; columns count from 1.
-use Rattle.std.specs.Prelude.{ℕ, zero, suc, ◌+◌, ◌-◌, ◌*◌, Bool, true, false, cond, not, ◌&&◌, ◌||◌, List, [], ◌∷◌, Some, None, Ok, Err, Option, Result, nat_le, slice_index}
+use Rattle.std.specs.Prelude.{ℕ, zero, suc, ◌+◌, ◌-◌, ◌*◌, Bool, true, false, cond, not, ◌&&◌, ◌||◌, List, [], ◌∷◌, Some, None, Ok, Err, Option, Result, nat_le, slice_index, fold}
+use Rattle.std.specs.List.{position_from}
 use Rattle.denials.specs.declared.Fault.{Fault}
 use Rattle.denials.specs.declared.Fault.TheVariants.{OutOfOrder, WrongByte, WrongValue}
 use Rattle.records.specs.declared.layouts.Sort.{Sort}
@@ -26,6 +27,14 @@ first_wrong_byte c x col (suc n) = cond (holds c (byte_in x col)) (first_wrong_b
 unfoldable pub number : Bytes → ℕ → ℕ → ℕ
 number x col zero = 0
 number x col (suc n) = number x col n * 10 + (byte_in x (col + n) - 48)
+
+-- the column of the first byte that is not of the class, where the first stands in column col
+abbrev pub wrong_from : Class → ℕ → Bytes → Option ℕ
+wrong_from c col bs = position_from (λ b. not (holds c b)) col bs
+
+-- the number that digits spell after those of n
+abbrev pub spelled : ℕ → Bytes → ℕ
+spelled n bs = fold (λ m b. m * 10 + (b - 48)) n bs
 
 -- the number in a field
 abbrev pub number_in : Bytes → Field → ℕ

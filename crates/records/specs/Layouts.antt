@@ -1,5 +1,6 @@
 -- The layouts of the four records: sorts, classes, rules, and one table of fields for each sort. Columns count from 1.
 use Rattle.std.specs.Prelude.{ℕ, ◌+◌, ◌-◌, ◌/◌, ◌%◌, ◌≤◌, Bool, true, cond, ◌&&◌, ◌||◌, List, [], ◌∷◌, length, Some, None, Option, ◌==◌, nat_le, nat_lt, slice_index, slice_index_or}
+use Rattle.std.specs.List.{position_from}
 use Rattle.records.specs.declared.layouts.Sort.{Sort}
 use Rattle.records.specs.declared.layouts.Sort.TheVariants.{Header, Data, Trailer, End}
 use Rattle.records.specs.declared.layouts.Class.{Class}
@@ -153,8 +154,7 @@ covers f col = nat_le (first f) col && nat_le col (last f)
 
 -- the number, from n on, of the field that covers a column
 abbrev pub covered_by : ℕ → ℕ → List Field → Option ℕ
-covered_by col n [] = None
-covered_by col n (f ∷ fs) = cond (covers f col) (Some n) (covered_by col (n + 1) fs)
+covered_by col n fs = position_from (λ f. covers f col) n fs
 
 -- each field begins right after the one before, from that column on, and the last one ends at the last column
 abbrev pub tiles : ℕ → List Field → Bool

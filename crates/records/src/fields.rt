@@ -1,7 +1,7 @@
 // One field of one record: the class of its bytes, then the rule on its number.
-ghost use Rattle.std.specs.Prelude.{◌≡◌, ◌+◌, ◌-◌, ◌^◌, ◌<◌, ◌≤◌, true, IfOk};
-ghost use Rattle.records.specs.Layouts.{holds as holds_of, is_date, keeps as keeps_of, numbered};
-ghost use Rattle.records.specs.Fields.{first_wrong_byte, number as number_of, judged_bytes, is_sound, read_field, read_if_any};
+ghost use Rattle.std.specs.Prelude.{◌≡◌, ◌+◌, ◌^◌, ◌<◌, ◌≤◌, true, not, length, position, IfOk};
+ghost use Rattle.records.specs.Layouts.{first, class, width, holds as holds_of, is_date, keeps as keeps_of, numbered};
+ghost use Rattle.records.specs.Fields.{first_wrong_byte, number_in, judged_bytes, is_sound, read_field, read_if_any, wrong_from, spelled};
 
 use crate::layouts::{Class, Field, Rule, Sort, numbered_field};
 use denials::Fault;
@@ -17,12 +17,11 @@ impl Class {
         ensures { result ≡ holds_of self byte }
     {
         match self {
-            Class::Number => byte >= b'0' && byte <= b'9',
-            Class::Character => match byte {
-                b'0'..=b'9' | b'A'..=b'Z' | 0xb1..=0xdd | 0xde | 0xdf => true,
-                b' ' | b'(' | b')' | b'-' | b'.' => true,
-                _ => false,
-            },
+            Class::Number => byte.is_ascii_digit(),
+            Class::Character => matches!(
+                byte,
+                b'0'..=b'9' | b'A'..=b'Z' | 0xb1..=0xdd | 0xde | 0xdf | b' ' | b'(' | b')' | b'-' | b'.'
+            ),
             Class::Filler => byte == b' ',
         }
     }
@@ -31,7 +30,8 @@ impl Class {
 fn is_date(month: u64, day: u64) -> bool
     ensures { result ≡ is_date month day }
 {
-    1 <= month && month <= 12 && 1 <= day && day <= MONTH_DAYS[(month - 1) as usize]
+    // `as usize`, since a `try_from` would have a way out that no month takes.
+    (1..=12).contains(&month) && (1..=MONTH_DAYS[(month - 1) as usize]).contains(&day)
 }
 
 impl Rule {
@@ -44,52 +44,77 @@ impl Rule {
             Rule::AtMost(most) => number <= most,
             Rule::NotZero => number > 0,
             Rule::Date => is_date(number / 100, number % 100),
-            Rule::BillerDeposit => number == 1 || number == 2 || number == 9,
-            Rule::PayerDeposit => number == 1 || number == 2 || number == 3 || number == 9,
+            Rule::BillerDeposit => matches!(number, 1 | 2 | 9),
+            Rule::PayerDeposit => matches!(number, 1 | 2 | 3 | 9),
         }
     }
 }
 
-// Tests the bytes of some columns.
-fn test_bytes(record: &[u8; 120], class: Class, first: usize, last: usize) -> Result<(), Fault>
-    requires { (1 ≤ first) × ((first ≤ last) × (last ≤ 120)) }
-    ensures { result ≡ judged_bytes (first_wrong_byte class «record».now first (last + 1 - first)) tt }
+impl Field {
+    // The field's bytes in a record.
+    fn bytes(self, record: &[u8; 120]) -> &[u8]
+        requires { is_sound self ≡ true }
+        ensures len { length result.now ≡ width self }
+        ensures wrong { wrong_from (class self) (first self) result.now ≡ first_wrong_byte (class self) «record».now (first self) (width self) }
+        ensures spelled { spelled 0 result.now ≡ number_in «record».now self }
+    {
+        let Field(first, last, _, _) = self;
+        &record[first - 1..last]
+    }
+}
+
+// The place of the first byte that is not of the class, counted from 0.
+fn wrong_index(bytes: &[u8], class: Class) -> Option<usize>
+    ensures { result ≡ position (λ b. not (holds_of class b)) bytes.now }
 {
-    for column in first..last + 1 {
-        if !class.holds(record[column - 1]) {
-            return Err(Fault::WrongByte { column });
-        }
-    }
-    Ok(())
+    bytes.iter().position(|byte| !class.holds(*byte))
 }
 
-// Tests the bytes of some columns for digits, and reads their number on the way.
-fn read_digits(record: &[u8; 120], first: usize, last: usize) -> Result<u64, Fault>
-    requires { (1 ≤ first) × ((first ≤ last) × ((last ≤ 120) × (last < first + 12))) }
-    ensures value { result ≡ judged_bytes (first_wrong_byte Class.Number «record».now first (last + 1 - first)) (number_of «record».now first (last + 1 - first)) }
+// Tests bytes that begin in this column.
+fn test_bytes(bytes: &[u8], class: Class, first: usize) -> Result<(), Fault>
+    requires { first + length bytes.now ≤ 121 }
+    ensures { result ≡ judged_bytes (wrong_from class first bytes.now) tt }
+{
+    match wrong_index(bytes, class) {
+        Some(index) => Err(Fault::WrongByte {
+            column: first + index,
+        }),
+        None => Ok(()),
+    }
+}
+
+// Tests bytes that begin in this column for digits, and reads their number on the way: a walk of its own, so that no byte is looked at
+// twice, once for its class and once for its digit.
+fn read_digits(digits: &[u8], first: usize) -> Result<u64, Fault>
+    requires place { first + length digits.now ≤ 121 }
+    requires few { length digits.now ≤ 12 }
+    ensures value { result ≡ judged_bytes (wrong_from Class.Number first digits.now) (spelled 0 digits.now) }
     ensures below { IfOk result (λ v. v < 10 ^ 12) }
 {
     let mut value: u64 = 0;
-    for column in first..last + 1 {
-        let byte = record[column - 1];
-        if !Class::Number.holds(byte) {
-            return Err(Fault::WrongByte { column });
+    for (index, digit) in digits.iter().enumerate() {
+        if !Class::Number.holds(*digit) {
+            return Err(Fault::WrongByte {
+                column: first + index,
+            });
         }
-        value = value * 10 + (byte - b'0') as u64;
+        value = value * 10 + u64::from(*digit - b'0');
     }
     Ok(value)
 }
 
-// The number in a field that is read as one, else 0; a wrong byte comes before a wrong value.
-fn read(record: &[u8; 120], field: Field) -> Result<u64, Fault>
+// The number in a field that is read as one, else 0; a wrong byte comes before a wrong value. That the number is below 10^12 is
+// handed up to the public call as a clause: a type for such numbers would be taken apart at once by each of the three calls.
+pub(crate) fn read(record: &[u8; 120], field: Field) -> Result<u64, Fault>
     requires { is_sound field ≡ true }
     ensures value { result ≡ read_field «record».now field }
     ensures below { IfOk result (λ v. v < 10 ^ 12) }
 {
-    let Field(first, last, class, rule) = field;
+    let Field(first, _, class, rule) = field;
+    let bytes = field.bytes(record);
     match class {
-        Class::Number if last - first < MOST_DIGITS => {
-            let value = read_digits(record, first, last)?;
+        Class::Number if bytes.len() <= MOST_DIGITS => {
+            let value = read_digits(bytes, first)?;
             if rule.keeps(value) {
                 Ok(value)
             } else {
@@ -97,13 +122,14 @@ fn read(record: &[u8; 120], field: Field) -> Result<u64, Fault>
             }
         }
         _ => {
-            test_bytes(record, class, first, last)?;
+            test_bytes(bytes, class, first)?;
             Ok(0)
         }
     }
 }
 
 /// Tests the field of that number, and tells what its digits spell: 0 where the field is no number, has more than 12 digits, or is none of the sort's.
+// 0 and no `Option` where there is no number, since callers add up what they read.
 pub fn read_field(record: &[u8; 120], sort: Sort, number: usize) -> Result<u64, Fault>
     ensures value { result ≡ read_if_any «record».now (numbered sort number) }
     ensures below { IfOk result (λ v. v < 10 ^ 12) }

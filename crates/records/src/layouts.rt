@@ -1,6 +1,9 @@
 // The layouts of the four records: one table for each, columns counted from 1.
-ghost use Rattle.std.specs.Prelude.{◌≡◌, ◌≤◌, true, is_some, IfSome};
+ghost use Rattle.std.specs.Prelude.{◌≡◌, ◌<◌, ◌≤◌, true, length, is_some, ok_or, position, IfSome};
+ghost use Rattle.denials.specs.declared.Fault.TheVariants.{OutOfOrder};
 ghost use Rattle.records.specs.Layouts.{sort_of, fields_of, numbered, Inside, covers, covered_by, tiles};
+
+use denials::Fault;
 
 /// The length of a record.
 pub const RECORD_BYTES: usize = 120;
@@ -50,6 +53,7 @@ pub enum Rule {
 }
 
 /// A field: its first column, its last column, its class and its rule.
+// A tuple struct without an invariant on its columns: a static, as the tables are, cannot hold a struct with a ghost field or a model.
 #[derive(Clone, Copy)]
 pub struct Field(pub usize, pub usize, pub Class, pub Rule);
 
@@ -102,16 +106,20 @@ const END: [Field; 2] = [
     Field(2, 120, Class::Filler, Rule::Any),
 ];
 
-/// The sort that a record's first byte tells.
-pub fn sort_of(byte: u8) -> Option<Sort>
-    ensures { result ≡ sort_of byte }
-{
-    match byte {
-        b'1' => Some(Sort::Header),
-        b'2' => Some(Sort::Data),
-        b'8' => Some(Sort::Trailer),
-        b'9' => Some(Sort::End),
-        _ => None,
+/// The sort that a record's first byte tells. A record that begins with any other byte may come nowhere.
+impl TryFrom<u8> for Sort {
+    type Error = Fault;
+
+    ghost try_from_gives = { λ byte told. told ≡ ok_or (sort_of byte) OutOfOrder };
+
+    fn try_from(byte: u8) -> Result<Sort, Fault> {
+        match byte {
+            b'1' => Ok(Sort::Header),
+            b'2' => Ok(Sort::Data),
+            b'8' => Ok(Sort::Trailer),
+            b'9' => Ok(Sort::End),
+            _ => Err(Fault::OutOfOrder),
+        }
     }
 }
 
@@ -128,33 +136,28 @@ pub fn layout(sort: Sort) -> &'static [Field]
 }
 
 /// The field of that number, counted from 1.
+// Sort and number are passed apart, since a pair of them would be taken apart at once.
 pub fn numbered_field(sort: Sort, number: usize) -> Option<Field>
     ensures value { result ≡ numbered sort number }
     ensures inside { IfSome result Inside }
 {
-    let fields = layout(sort);
-    if number == 0 || number > fields.len() {
-        return None;
-    }
-    Some(fields[number - 1])
+    let index = number.checked_sub(1)?;
+    layout(sort).get(index).copied()
 }
 
 fn is_covered(field: &Field, column: usize) -> bool
     ensures { result ≡ covers field.now column }
 {
     let Field(first, last, _, _) = *field;
-    first <= column && column <= last
+    (first..=last).contains(&column)
 }
 
-fn covering_number(sort: Sort, column: usize) -> Option<usize>
-    ensures { result ≡ covered_by column 1 (fields_of sort) }
+// The place of the field that covers a column, counted from 0.
+fn covering_index(fields: &[Field], column: usize) -> Option<usize>
+    ensures value { result ≡ position (λ f. covers f column) fields.now }
+    ensures within { IfSome result (λ i. i < length fields.now) }
 {
-    for (index, field) in layout(sort).iter().enumerate() {
-        if is_covered(field, column) {
-            return Some(index + 1);
-        }
-    }
-    None
+    fields.iter().position(|field| is_covered(field, column))
 }
 
 /// The number of the field that covers a column. The fields of a record tile its 120 columns.
@@ -163,5 +166,5 @@ pub fn field_covering(sort: Sort, column: usize) -> Option<usize>
     ensures covers { 1 ≤ column → column ≤ 120 → is_some result ≡ true }
     ensures tiles { tiles 1 (fields_of sort) ≡ true }
 {
-    covering_number(sort, column)
+    covering_index(layout(sort), column).map(|index| index + 1)
 }

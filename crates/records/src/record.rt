@@ -3,19 +3,17 @@ ghost use Rattle.std.specs.Prelude.{◌≡◌, Ok, Err};
 ghost use Rattle.records.specs.Fields.{test_record};
 ghost use Rattle.records.specs.Kept.{IsA, FirstFault};
 
-use crate::fields::read_field;
-use crate::layouts::{Sort, layout, sort_of};
+use crate::fields::read;
+use crate::layouts::{Sort, layout};
 use denials::Fault;
 
 // The sort of a record, and each of its fields in turn.
 fn sort_if_kept(record: &[u8; 120]) -> Result<Sort, Fault>
     ensures { result ≡ test_record «record».now }
 {
-    let Some(sort) = sort_of(record[0]) else {
-        return Err(Fault::OutOfOrder);
-    };
-    for number in 1..layout(sort).len() + 1 {
-        read_field(record, sort, number)?;
+    let sort = Sort::try_from(record[0])?;
+    for field in layout(sort) {
+        read(record, *field)?;
     }
     Ok(sort)
 }

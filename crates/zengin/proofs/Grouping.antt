@@ -1,6 +1,6 @@
--- Records by their numbers, and what a group asks for, found by its trailer.
-use Rattle.std.proofs.Common.{◌≡◌, ℕ, ◌+◌, ◌-◌, ◌*◌, ◌/◌, ◌<◌, ◌≤◌, Bool, true, false, cond, ◌||◌, eqb, ltb, List, [], length, get_or, Some, None, Option, sym, refl, ap, ◌∙◌, subst, ⊎_elim, arith}
-use Rattle.std.proofs.lemmas.Bool.{ne_eqb, le-ltb, eqb-false, ltb-false, cases_lt}
+-- What a group asks for, found by its trailer.
+use Rattle.std.proofs.Common.{◌≡◌, ℕ, ◌+◌, ◌-◌, ◌*◌, ◌/◌, ◌<◌, ◌≤◌, length, Some, None, Option, sym, refl, ap, ◌∙◌, subst, ⊎_elim, arith}
+use Rattle.std.proofs.lemmas.Bool.{cases_lt}
 use Rattle.records.specs.declared.layouts.Sort.{Sort}
 use Rattle.records.specs.declared.layouts.Sort.TheVariants.{Header, Data, Trailer, End}
 use Rattle.records.specs.Layouts.{biller_code, transfer_date, trailer_count, trailer_amount, sort_of}
@@ -9,18 +9,12 @@ use Rattle.records.specs.Kept.{IsA}
 use Rattle.records.proofs.Kept.{kept_read}
 use Rattle.zengin.specs.declared.totals.Totals.{Totals}
 use Rattle.zengin.specs.declared.groups.Group.{Group}
-use Rattle.zengin.specs.Files.{records_of, record_at}
+use Rattle.zengin.specs.Files.{record_at}
 use Rattle.zengin.specs.Shown.{record_numbered}
 use Rattle.zengin.specs.Judged.{totals, count_stated, amount_stated}
 use Rattle.zengin.specs.Groups.{both_read, totals_of, totals_stated, head_of, head_stated, head, group, and_then, group_closed_by, group_asking, Closes}
 use Rattle.zengin.specs.Lawful.{amounts, Groups, none, more, Lawful, Group as GroupAt}
-use Rattle.zengin.proofs.Walks.{record_item}
-
-pub number_record : (b : Bytes) (r : ℕ) → (r ≡ 0 → ⊥) → r ≤ length b / 120 → record_numbered b r ≡ Some (record_at b (r - 1))
-number_record b r some few = λ i. cond (ne_eqb r 0 some i || le-ltb (length b / 120) r few i) None (Some (record_at b (r - 1)))
-
-pub record_numbered_lem : (b : Bytes) (rs : List Bytes) (r : ℕ) → rs ≡ records_of b → (r ≡ 0 → ⊥) → r ≤ length b / 120 → Some (get_or rs (r - 1) []) ≡ record_numbered b r
-record_numbered_lem b rs r e some few = ap Some (record_item b rs (r - 1) e (omega (arith, some))) ∙ sym (number_record b r some few)
+use Rattle.zengin.proofs.Numbered.{number_record, numbered_there}
 
 trailer_states : (x : Bytes) → IsA Trailer x → totals_stated x ≡ Some (totals (count_stated x) (amount_stated x))
 trailer_states x is =
@@ -106,11 +100,6 @@ through : {X Y : Type 0} (o : Option X) (go : X → Option Y) (y : Y) → and_th
 through None go y e = let z : ◌≡◌ {A = ℕ} 0 1 = cc in absurd (omega arith)
 through (Some x) go y e = record { by = x; first_is = refl; then_is = e }
 
-there_tested : (b : Bytes) (r : ℕ) (x : Bytes) (p q : Bool) → eqb r 0 ≡ p → ltb (length b / 120) r ≡ q → cond (p || q) None (Some (record_at b (r - 1))) ≡ Some x → (1 ≤ r) × (r ≤ length b / 120) × (record_at b (r - 1) ≡ x)
-there_tested b r x true q c d e = let z : ◌≡◌ {A = ℕ} 0 1 = cc in absurd (omega arith)
-there_tested b r x false true c d e = let z : ◌≡◌ {A = ℕ} 0 1 = cc in absurd (omega arith)
-there_tested b r x false false c d e = (omega (arith, eqb-false r 0 c), ltb-false (length b / 120) r d, cc)
-
 totals_trailer : (x : Bytes) (o : Option Sort) (t : Totals) → totals_of x o ≡ Some t → o ≡ Some Trailer
 totals_trailer x None t e = let z : ◌≡◌ {A = ℕ} 0 1 = cc in absurd (omega arith)
 totals_trailer x (Some Header) t e = let z : ◌≡◌ {A = ℕ} 0 1 = cc in absurd (omega arith)
@@ -121,7 +110,7 @@ totals_trailer x (Some End) t e = let z : ◌≡◌ {A = ℕ} 0 1 = cc in absurd
 pub group_only : (b : Bytes) (r : ℕ) (g : Group) → Lawful b → group_closed_by b r ≡ Some g → Closes b r g
 group_only b r g lawful e =
     let one = through (record_numbered b r) _ g e in
-    let there = there_tested b r one.by (eqb r 0) (ltb (length b / 120) r) refl refl one.first_is in
+    let there = numbered_there b r one.by (sym one.first_is) in
     let two = through (totals_stated one.by) _ g one.then_is in
     let sort = totals_trailer one.by (sort_of (byte_in one.by 1)) two.by two.first_is in
     let closing = lawful_closing b lawful (r - 1) (omega (arith, there.0, there.1)) (subst (λ y. sort_of (byte_in y 1) ≡ Some Trailer) (sym there.2) sort) in

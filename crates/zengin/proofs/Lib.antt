@@ -1,6 +1,7 @@
 pub mod Grouping
 pub mod Judging
 pub mod Naming
+pub mod Numbered
 pub mod Outcomes
 pub mod Passing
 pub mod Stated

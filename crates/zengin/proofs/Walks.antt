@@ -1,5 +1,5 @@
 -- One record on in a walk: the ways out, and the way on.
-use Rattle.std.proofs.Common.{◌≡◌, ℕ, zero, suc, ◌+◌, ◌-◌, ◌*◌, ◌/◌, ◌^◌, ◌<◌, ◌≤◌, Bool, true, false, cond, eqb, List, [], length, get_or, take, drop, is_some, Some, None, Ok, Err, Option, Result, unwrap_or, sym, refl, ap, ◌∙◌, subst, arith}
+use Rattle.std.proofs.Common.{◌≡◌, ℕ, zero, suc, ◌+◌, ◌-◌, ◌*◌, ◌/◌, ◌^◌, ◌<◌, ◌≤◌, Bool, true, false, cond, eqb, List, [], length, get_or, take, drop, is_some, Some, None, Ok, Err, Option, Result, unwrap_or, ok_or, sym, refl, ap, ◌∙◌, subst, arith}
 use Rattle.std.specs.Simd.{first_chunks}
 use Rattle.std.proofs.lemmas.List.{drop-drop}
 use Rattle.std.proofs.lemmas.Bool.{both_ways}
@@ -28,6 +28,22 @@ chunk_at (suc n) (suc r) b h =
 
 pub record_item : (b : Bytes) (rs : List Bytes) (r : ℕ) → rs ≡ records_of b → r < length b / 120 → get_or rs r [] ≡ record_at b r
 record_item b rs r e h = ap (λ l. get_or l r []) e ∙ chunk_at (length b / 120) r b h
+
+-- the sort that a byte tells, or its fault
+pub of_sort : {X E : Type 0} (o : Option X) (x : X) (e : E) → Ok x ≡ ok_or o e → o ≡ Some x
+of_sort None x e is = absurd (ok_err is)
+  where
+    ok_err : {X E : Type 0} {x : X} {e : E} → ◌≡◌ {A = Result X E} (Ok x) (Err e) → ⊥
+    ok_err q = let z : ◌≡◌ {A = ℕ} 0 1 = cc in omega arith
+of_sort (Some y) x e is = cc
+
+pub of_no_sort : {X E : Type 0} (o : Option X) (f e : E) → Err f ≡ ok_or o e → o ≡ None
+of_no_sort None f e is = refl
+of_no_sort (Some y) f e is = let z : ◌≡◌ {A = ℕ} 0 1 = cc in absurd (omega arith)
+
+pub no_sort_fault : {X E : Type 0} (o : Option X) (f e : E) → Err f ≡ ok_or o e → f ≡ e
+no_sort_fault None f e is = cc
+no_sort_fault (Some y) f e is = let z : ◌≡◌ {A = ℕ} 0 1 = cc in absurd (omega arith)
 
 pub some_of : {X : Type 0} (o : Option X) (x d : X) → true ≡ is_some o → x ≡ unwrap_or o d → o ≡ Some x
 some_of (Some y) x d e v = ap Some (sym v)
@@ -102,9 +118,6 @@ few_checked : (p q : Bool) (r : ℕ) (t t' : Tally) → Ok t' ≡ cond p (cond q
 few_checked true true r t t' e h = few_of (r + 1) t t' e (few_wider r (r + 1) t (omega arith) h)
 few_checked true false r t t' e h = let z : ◌≡◌ {A = ℕ} 0 1 = cc in absurd (omega arith)
 few_checked false q r t t' e h = let z : ◌≡◌ {A = ℕ} 0 1 = cc in absurd (omega arith)
-
-pub few_enough : (r : ℕ) (t : Tally) → r ≤ 10000 → Few r t → Few 10000 t
-few_enough r t l h = few_wider r 10000 t l h
 
 pub few_more : (k : Sort) (s : Totals) (r : ℕ) (t t' : Tally) → Ok t' ≡ tallied k s t → s.amount < 10 ^ 12 → Few r t → Few (r + 1) t'
 few_more Header s r t t' e l h =

@@ -7,7 +7,7 @@ ghost use Rattle.zengin.specs.Offences.{NamesFirst, Placed};
 use crate::check::check;
 use denials::Denial;
 
-// 0, or the denial's number, record and column in one number.
+// 0, or the denial's number, record and column in one number, since C is handed one.
 fn in_one_number(judgement: Result<(), Denial>) -> u64
     requires { (denial : Denial) → judgement ≡ Err denial → Placed denial }
     ensures { result ≡ coded judgement }
@@ -16,7 +16,7 @@ fn in_one_number(judgement: Result<(), Denial>) -> u64
         Ok(()) => 0,
         Err(denial) => {
             let told = denial.told();
-            told.number as u64 * 100_000_000 + told.record as u64 * 1_000 + told.column as u64
+            u64::from(told.number) * 100_000_000 + told.record as u64 * 1_000 + told.column as u64
         }
     }
 }

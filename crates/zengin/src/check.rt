@@ -1,17 +1,17 @@
 // The check: one walk over the records of a file and their fields, which ends at the first fault.
 ghost use Rattle.std.specs.Prelude.{◌≡◌, ◌+◌, ◌/◌, ◌≤◌, length, Ok, Err};
-ghost use Rattle.zengin.specs.Judged.{walk as walk_of, at_start, fault_at, summed, passed, judged};
+ghost use Rattle.zengin.specs.Judged.{walk as walk_of, at_start, fault_at, summed, judged};
 ghost use Rattle.zengin.specs.Lawful.{LawfulAsking, Lawful};
 ghost use Rattle.zengin.specs.Offences.{NamesFirst, Placed};
 
-use crate::lengths::{length_denial, records_of};
+use crate::lengths::{check_length, records_of};
 use crate::order::Order;
-use crate::totals::{Figures, NO_TOTALS, Tally};
+use crate::totals::{Figures, Tally, Totals};
 use denials::{Denial, Fault, RecordFault};
 use records::fields::read_field;
-use records::layouts::{layout, sort_of};
+use records::layouts::{Sort, layout};
 
-// The fault of the record at this index, counted from 0.
+// The fault of the record at this index, counted from 0. Nothing else makes a denial of a fault, so there is no `From` for it.
 fn fault_at(index: usize, fault: Fault) -> Denial
     requires { index ≤ 10000 }
     ensures { result ≡ fault_at index fault }
@@ -29,22 +29,20 @@ fn walk(file: &[u8]) -> Result<Figures, Denial>
 {
     let records = records_of(file);
     let mut order = Order::Start;
-    let mut tally = Tally {
-        file: Figures {
-            groups: 0,
-            requested: NO_TOTALS,
-        },
-        group: NO_TOTALS,
-    };
+    let mut tally = Tally::default();
+    // A labelled block, left at the first fault with its value, is the form that the project sets for the check; so no `?` stands in it.
     'file: {
         for (index, record) in records.iter().enumerate() {
-            let Some(sort) = sort_of(record[0]) else {
-                break 'file Err(fault_at(index, Fault::OutOfOrder));
+            let sort = match Sort::try_from(record[0]) {
+                Ok(sort) => sort,
+                Err(fault) => break 'file Err(fault_at(index, fault)),
             };
             if !order.admit(sort) {
                 break 'file Err(fault_at(index, Fault::OutOfOrder));
             }
-            let mut stated = NO_TOTALS;
+            let mut stated = Totals::default();
+            // By number, and not field by field: reading a field by its sort and number asks nothing of the caller. Half open, since
+            // the proof has one way out of the loop then, and two out of a closed range.
             for number in 1..layout(sort).len() + 1 {
                 match read_field(record, sort, number) {
                     Ok(value) => stated.note(sort, number, value),
@@ -67,9 +65,7 @@ fn walk(file: &[u8]) -> Result<Figures, Denial>
 fn figures_of(file: &[u8]) -> Result<Figures, Denial>
     ensures { result ≡ summed file.now }
 {
-    if let Some(denial) = length_denial(file.len()) {
-        return Err(denial);
-    }
+    check_length(file.len())?;
     walk(file)
 }
 
@@ -93,14 +89,5 @@ pub fn check(file: &[u8]) -> Result<(), Denial>
     ensures named { (denial : Denial) → NamesFirst file.now denial → result ≡ Err denial }
     ensures placed { (denial : Denial) → result ≡ Err denial → Placed denial }
 {
-    without_figures(summary(file))
-}
-
-fn without_figures(summary: Result<Figures, Denial>) -> Result<(), Denial>
-    ensures { result ≡ passed summary }
-{
-    match summary {
-        Ok(_) => Ok(()),
-        Err(denial) => Err(denial),
-    }
+    summary(file).map(|_| ())
 }

@@ -1,12 +1,14 @@
 // What one group of a file asks for.
-ghost use Rattle.std.specs.Prelude.{◌≡◌, ℕ, ◌+◌, ◌*◌, ◌^◌, ◌<◌, ◌≤◌, length, IfSome, Some};
-ghost use Rattle.zengin.specs.Groups.{totals_stated, head_stated, group_closed_by, group_asking, Closes};
+ghost use Rattle.std.specs.Prelude.{◌≡◌, ◌≢◌, ℕ, ◌+◌, ◌*◌, ◌≤◌, length, Some, None};
+ghost use Rattle.records.specs.Layouts.{sort_of, numbered};
+ghost use Rattle.records.specs.Fields.{byte_in, read_if_any};
+ghost use Rattle.zengin.specs.Groups.{both_read, head, totals_stated, head_stated, group_closed_by, group_asking, Closes};
 ghost use Rattle.zengin.specs.Lawful.{Group as GroupAt, Lawful};
 
 use crate::shown::numbered_record;
 use crate::totals::Totals;
 use records::fields::read_field;
-use records::layouts::{HEADER_BILLER, HEADER_DATE, Sort, TRAILER_AMOUNT, TRAILER_COUNT, sort_of};
+use records::layouts::{HEADER_BILLER, HEADER_DATE, Sort, TRAILER_AMOUNT, TRAILER_COUNT};
 
 /// A group: its header's biller code and transfer date, and the count and amount it asks for.
 #[derive(Clone, Copy, Debug, PartialEq, Eq)]
@@ -17,20 +19,24 @@ pub struct Group {
     pub requested: Totals,
 }
 
+// Two of the numbers in a record, if it is of this sort and both can be read.
+fn two_numbers(record: &[u8; 120], sort: Sort, first: usize, second: usize) -> Option<(u64, u64)>
+    ensures here { sort_of (byte_in «record».now 1) ≡ Some sort → result ≡ both_read head (read_if_any «record».now (numbered sort first)) (read_if_any «record».now (numbered sort second)) }
+    ensures elsewhere { (sort_of (byte_in «record».now 1) ≢ Some sort) → result ≡ None }
+{
+    if Sort::try_from(record[0]) != Ok(sort) {
+        return None;
+    }
+    let first = read_field(record, sort, first).ok()?;
+    let second = read_field(record, sort, second).ok()?;
+    Some((first, second))
+}
+
 // The count and amount that a trailer states.
 fn totals_stated(record: &[u8; 120]) -> Option<Totals>
-    ensures value { result ≡ totals_stated «record».now }
-    ensures below { IfSome result (λ t. t.count < 10 ^ 12) }
+    ensures { result ≡ totals_stated «record».now }
 {
-    let Some(Sort::Trailer) = sort_of(record[0]) else {
-        return None;
-    };
-    let Ok(count) = read_field(record, Sort::Trailer, TRAILER_COUNT) else {
-        return None;
-    };
-    let Ok(amount) = read_field(record, Sort::Trailer, TRAILER_AMOUNT) else {
-        return None;
-    };
+    let (count, amount) = two_numbers(record, Sort::Trailer, TRAILER_COUNT, TRAILER_AMOUNT)?;
     Some(Totals { count, amount })
 }
 
@@ -38,16 +44,7 @@ fn totals_stated(record: &[u8; 120]) -> Option<Totals>
 fn head_stated(record: &[u8; 120]) -> Option<(u64, u64)>
     ensures { result ≡ head_stated «record».now }
 {
-    let Some(Sort::Header) = sort_of(record[0]) else {
-        return None;
-    };
-    let Ok(biller) = read_field(record, Sort::Header, HEADER_BILLER) else {
-        return None;
-    };
-    let Ok(date) = read_field(record, Sort::Header, HEADER_DATE) else {
-        return None;
-    };
-    Some((biller, date))
+    two_numbers(record, Sort::Header, HEADER_BILLER, HEADER_DATE)
 }
 
 fn closed_group(file: &[u8], trailer: usize) -> Option<Group>
@@ -55,6 +52,7 @@ fn closed_group(file: &[u8], trailer: usize) -> Option<Group>
 {
     let closing = numbered_record(file, trailer)?;
     let requested = totals_stated(closing)?;
+    // `as usize`, since a `try_from` would have a way out that no count takes.
     let header = (trailer - 1).saturating_sub(requested.count as usize);
     let opening = numbered_record(file, header)?;
     let (biller, date) = head_stated(opening)?;

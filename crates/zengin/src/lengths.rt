@@ -1,5 +1,5 @@
 // How long a bare file may be, and its bytes as records.
-ghost use Rattle.std.specs.Prelude.{◌≡◌, ◌/◌, length};
+ghost use Rattle.std.specs.Prelude.{◌≡◌, ◌/◌, length, Some, None, OnOk, IfErr};
 ghost use Rattle.zengin.specs.Files.{length_denial, records_of};
 
 use denials::Denial;
@@ -11,16 +11,17 @@ pub const LEAST_RECORDS: usize = 3;
 /// The most records of a file.
 pub const MOST_RECORDS: usize = 10_000;
 
-/// What a bare file of that many bytes is denied for.
-pub fn length_denial(len: usize) -> Option<Denial>
-    ensures { result ≡ length_denial len }
+/// Passes the lengths that a bare file may have, and denies any other.
+pub fn check_length(len: usize) -> Result<(), Denial>
+    ensures passes { OnOk result (length_denial len ≡ None) }
+    ensures denies { IfErr result (λ denial. length_denial len ≡ Some denial) }
 {
     if len < LEAST_RECORDS * RECORD_BYTES || len % RECORD_BYTES != 0 {
-        Some(Denial::BareLength)
+        Err(Denial::BareLength)
     } else if len > MOST_RECORDS * RECORD_BYTES {
-        Some(Denial::TooManyRecords)
+        Err(Denial::TooManyRecords)
     } else {
-        None
+        Ok(())
     }
 }
 

@@ -16,6 +16,7 @@ pub(crate) enum Order {
 
 impl Order {
     /// Goes on past a record of this sort, or tells that it may not come here and stays.
+    // A state changed in place by state and sort together is the form that the project sets; whether it went on is all there is to tell.
     pub(crate) fn admit(&mut self, sort: Sort) -> bool
         ensures answer { result ≡ is_some (next_order self.old sort) }
         ensures state { self.new ≡ unwrap_or (next_order self.old sort) self.old }

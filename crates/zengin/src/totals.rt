@@ -6,30 +6,25 @@ use denials::Fault;
 use records::layouts::{DATA_AMOUNT, Sort, TRAILER_AMOUNT, TRAILER_COUNT};
 
 /// A number of data records and the sum of their amounts.
-#[derive(Clone, Copy, Debug, PartialEq, Eq)]
+#[derive(Clone, Copy, Debug, Default, PartialEq, Eq)]
 pub struct Totals {
     pub count: u64,
     pub amount: u64,
 }
 
 /// What a file asks for: its groups, and its data records with the sum of their amounts.
-#[derive(Clone, Copy, Debug, PartialEq, Eq)]
+#[derive(Clone, Copy, Debug, Default, PartialEq, Eq)]
 pub struct Figures {
     pub groups: u64,
     pub requested: Totals,
 }
 
 // The figures of the file so far, and the totals of the group that is open.
-#[derive(Clone, Copy)]
+#[derive(Clone, Copy, Default)]
 pub(crate) struct Tally {
     pub file: Figures,
     pub group: Totals,
 }
-
-pub(crate) const NO_TOTALS: Totals = Totals {
-    count: 0,
-    amount: 0,
-};
 
 impl Totals {
     // Keeps what the field of that number states: a data record's amount, a trailer's count and amount.
@@ -46,7 +41,9 @@ impl Totals {
 
     // One data record more.
     fn with_claim(self, amount: u64) -> Totals
-        requires { (self.count < 2 ^ 32) × ((self.amount < 2 ^ 62) × (amount < 2 ^ 62)) }
+        requires count { self.count < 2 ^ 32 }
+        requires amount { self.amount < 2 ^ 62 }
+        requires claim { amount < 2 ^ 62 }
         ensures { result ≡ with_claim self amount }
     {
         Totals {
@@ -59,7 +56,8 @@ impl Totals {
 impl Tally {
     // The tally after a record of that sort; a trailer has to state its group's totals.
     pub(crate) fn with_record(self, sort: Sort, stated: Totals) -> Result<Tally, Fault>
-        requires { (Few 10000 self) × (stated.amount < 10 ^ 12) }
+        requires few { Few 10000 self }
+        requires stated { stated.amount < 10 ^ 12 }
         ensures { result ≡ tallied sort stated self }
     {
         let Tally { file, group } = self;
@@ -67,14 +65,14 @@ impl Tally {
             Sort::Header => Ok(Tally {
                 file: Figures {
                     groups: file.groups + 1,
-                    requested: file.requested,
+                    ..file
                 },
-                group: NO_TOTALS,
+                group: Totals::default(),
             }),
             Sort::Data => Ok(Tally {
                 file: Figures {
-                    groups: file.groups,
                     requested: file.requested.with_claim(stated.amount),
+                    ..file
                 },
                 group: group.with_claim(stated.amount),
             }),

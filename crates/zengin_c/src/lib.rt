@@ -8,6 +8,7 @@ ghost use Rattle.zengin.specs.Lawful.{Lawful};
 ghost use Rattle.zengin.specs.Offences.{NamesFirst};
 
 /// 0 for a lawful file, else the denial's number × 100,000,000 + record × 1,000 + column.
+// A crate is a library or a static library, so the call of the crate `zengin` stands here once more, for C.
 #[unsafe(no_mangle)]
 pub extern "C" fn zengin_check(file: &[u8]) -> u64
     ensures answer { result ≡ coded (judged file.now) }

@@ -1,38 +1,36 @@
-use Rattle.std.proofs.Common.{◌+◌, ◌<◌, length, get_or, set, filter, sym, ap, ◌∙◌, arith, rules}
+use Rattle.std.proofs.Common.{length, set, take, filter, ap, ◌∙◌, sym, arith, rules}
+use Rattle.std.proofs.lemmas.Iterator.{YieldsList-from_slice}
+use Rattle.std.proofs.lemmas.Iterator.Consumers.{YieldsList-from_filter, YieldsList-from_enumerate, YieldsList-turn, YieldsList-end}
 use Rattle.std.proofs.lemmas.List.{length_push, take_all}
+use borrow.Author.Tests.{tests}
 use Rattle.carrier.specs.Carrier.{is_kept, over}
-use Rattle.carrier.proofs.Buffers.{over_push}
-use Rattle.carrier.proofs.Kept.{kept_next, dropped_next, kept_room}
+use Rattle.carrier.proofs.Kept.{Turn, turn_at, all_counted, byte_more}
 use Rattle.carrier.proofs.copy_bare.Goals as goal
-use Rattle.carrier.proofs.copy_bare.Goals.{then-not-is_line_end, else-not-is_line_end}
 
--- there is room for one byte more
-room : (c : goal.Then-not-is_line_end) → c.loop-byte.at < length c.loop-byte.out
-room c =
-    let more = kept_room c.args.body.now c.loop-byte.byte-index c.loop-byte-test.true (sym c.if-not-is_line_end.ensures) in
-    omega (arith, more, c.loop-byte.invariant.0, c.requires, c.loop-byte.auto.out)
+-- where this byte stands among those that are kept
+turn : (c : goal.After-row_known-1) → Turn (filter is_kept c.args.body.now) (length c.loop-at.yielded) c.in-Some.at c.in-Some.byte.now
+turn c =
+    let chain = YieldsList-from_enumerate (YieldsList-from_filter _ is_kept (YieldsList-from_slice c.args.body.now (cc)) (cc) (λ x b q k. search (rules, tests))) (cc) in
+    turn_at (filter is_kept c.args.body.now) (length c.loop-at.yielded) c.in-Some.at c.in-Some.byte.now
+    (YieldsList-turn chain c.loop-at.yielded _ c.loop-at.yielded_by _ _ (c.in-Some.at, c.in-Some.byte) c.in-Some.is c.next.ensures.steps)
 
 pub bounds-out-at : goal.bounds-out-at
-bounds-out-at c = room c
+bounds-out-at c = let t = turn c in omega (arith, t.on, t.count, c.requires, c.loop-at.auto.out)
 
-pub overflow_add-at : goal.overflow_add-at
-overflow_add-at c = let more = room c in search rules
-
-pub loop-byte-preserved : goal.loop-byte-preserved
-loop-byte-preserved c =
-    elim c.if-not-is_line_end.branch [
-      | then-not-is_line_end w ↦
-          let is = sym w.if-not-is_line_end.ensures in
-          let next = kept_next c.args.body.now c.loop-byte.byte-index c.loop-byte-test.true is in
-          let more = kept_room c.args.body.now c.loop-byte.byte-index c.loop-byte-test.true is in (
-            w.at-is ∙ ap (λ n. n + 1) c.loop-byte.invariant.0 ∙ sym (ap length next ∙ length_push _ _),
-            w.out-is ∙ (λ i. set (c.loop-byte.invariant.1 i) (c.loop-byte.invariant.0 i) (get_or c.args.body.now c.loop-byte.byte-index 0))
-                ∙ over_push _ c.args.out.now _ (omega (arith, more, c.requires)) ∙ ap (λ l. over l c.args.out.now) (sym next),
-          )
-      | else-not-is_line_end w ↦
-          let next = dropped_next c.args.body.now c.loop-byte.byte-index c.loop-byte-test.true (sym w.if-not-is_line_end.ensures) in
-          (w.at-is ∙ c.loop-byte.invariant.0 ∙ sym (ap length next), w.out-is ∙ c.loop-byte.invariant.1 ∙ ap (λ l. over l c.args.out.now) (sym next))
-    ]
+pub loop-at-preserved : goal.loop-at-preserved
+loop-at-preserved c =
+    let ys = filter is_kept c.args.body.now in
+    let n = length c.loop-at.yielded in (
+      search rules,
+      search rules,
+      ap (λ l. set l c.in-Some.at c.in-Some.byte.now) c.loop-at.invariant.2
+          ∙ byte_more ys c.args.out.now n c.in-Some.at c.in-Some.byte.now c.requires (turn c)
+          ∙ ap (λ k. over (take k ys) c.args.out.now) (sym (length_push c.loop-at.yielded (c.in-Some.at, c.in-Some.byte))),
+    )
 
 pub returns : goal.returns
-returns c = c.loop-byte.invariant.1 ∙ ap (λ l. over (filter is_kept l) c.args.out.now) (take_all c.loop-byte.byte-index c.args.body.now (omega arith))
+returns c =
+    let ys = filter is_kept c.args.body.now in
+    let chain = YieldsList-from_enumerate (YieldsList-from_filter _ is_kept (YieldsList-from_slice c.args.body.now (cc)) (cc) (λ x b q k. search (rules, tests))) (cc) in
+    let end = (YieldsList-end chain c.loop-at.yielded _ c.loop-at.yielded_by _ _ c.in-None.is c.next.ensures.steps).1 in
+    c.loop-at.invariant.2 ∙ ap (λ l. over l c.args.out.now) (take_all (length c.loop-at.yielded) ys (all_counted ys (length c.loop-at.yielded) end))

@@ -1,11 +1,11 @@
-use Rattle.std.proofs.Common.{◌≡◌, ◌+◌, ◌-◌, ◌^◌, ◌<◌}
+use Rattle.std.proofs.Common.{◌≡◌, ◌+◌, ◌^◌, ◌<◌, drop}
 use Rattle.records.specs.declared.layouts.Class.TheVariants.{Number}
-use Rattle.records.specs.Fields.{first_wrong_byte, number}
+use Rattle.records.specs.Fields.{wrong_from, spelled}
 use Rattle.records.proofs.fields.read_digits.Given as goal
 
--- the columns that are left have the field's first wrong byte, and the value is the number in those that are read
-abbrev pub invariant-loop-column : goal.invariant-loop-column
-invariant-loop-column l =
-    (first_wrong_byte Number l.record l.column (l.last + 1 - l.column) ≡ first_wrong_byte Number l.record l.first (l.last + 1 - l.first))
-    × (l.value ≡ number l.record l.first (l.column - l.first))
-    × (l.value < 10 ^ (l.column - l.first))
+-- the digits that are left have the first wrong byte, and go on with the value
+abbrev pub invariant-loop-index : goal.invariant-loop-index
+invariant-loop-index l =
+    (wrong_from Number (l.first + l.index) (drop l.index l.digits) ≡ wrong_from Number l.first l.digits)
+    × (spelled l.value (drop l.index l.digits) ≡ spelled 0 l.digits)
+    × (l.value < 10 ^ l.index)
