@@ -1,19 +1,18 @@
 -- What the steps of the desk make of its registers and rows.
-use Rattle.std.proofs.Common.{◌≡◌, ℕ, ◌<◌, Bool, true, false, cond, List, [], ◌∷◌, length, get_or, set, is_ok, is_err, Some, None, Ok, Err, Option, Result, sym, refl, ap, ◌∙◌, subst, arith, MatchOption}
+use Rattle.std.proofs.Common.{◌≡◌, ℕ, ◌<◌, Bool, true, false, cond, List, [], length, get_or, set, Some, None, Ok, Err, Option, Result, sym, refl, ap, ◌∙◌, subst, arith, MatchOption}
 use Rattle.std.proofs.lemmas.List.{length-map, get_or-map, map-set}
+use Rattle.std.specs.Option.{option_map_or}
 use Rattle.denials.specs.declared.Denial.{Denial}
 use Rattle.denials.specs.declared.Denial.TheVariants.{OutsideWidth}
 use Rattle.claims.specs.declared.terms.Terms.{Terms}
 use Rattle.claims.specs.declared.codes.ResultCode.{ResultCode}
 use Rattle.claims.specs.Widths.{wide}
-use Rattle.hosts.specs.Firsts.{either}
 use Rattle.registers.specs.declared.register.Register.{Register}
 use Rattle.registers.specs.Listings.{Listing, listing, holders}
-use Rattle.registers.specs.Piles.{listings, objection, verdict_above, after}
-use Rattle.afternoon.specs.declared.commands.Sort.{Sort}
+use Rattle.registers.specs.Piles.{listings, objection, after}
 use Rattle.books.specs.Books.{Rows, books_verdict, books_after}
 use Rattle.afternoon.specs.Staff.{Changed, answer_of, afterwards}
-use Rattle.afternoon.specs.Desk.{stands, empty_of, put_on, place_of, register_at, registers_changed, change_answer, asked, passed_down, debited}
+use Rattle.afternoon.specs.Desk.{stands, place_of, register_at, registers_changed, change_answer, passed_down, debited}
 
 pub both : (r q : Rows) (ls ks : List Listing) → r ≡ q → ls ≡ ks → stands r ls ≡ stands q ks
 both r q ls ks e f = ap (λ (x : Rows). stands x ls) e ∙ ap (λ (x : List Listing). stands q x) f
@@ -22,9 +21,6 @@ both r q ls ks e f = ap (λ (x : Rows). stands x ls) e ∙ ap (λ (x : List List
 module _ (change : Listing → Changed) (number : ℕ) (rs : List Register) where
   placed : (o : Option ℕ) → o ≡ place_of (length rs) number → place_of (length (listings rs)) number ≡ o
   placed o e = ap (λ (n : ℕ). place_of n number) (length-map rs listing) ∙ sym e
-
-  pub absent : None ≡ place_of (length rs) number → (listings rs ≡ registers_changed change number (listings rs)) × (None ≡ change_answer change number (listings rs))
-  absent e = let p = placed None e in (rw p, rw p)
 
   module _ (i : ℕ) (e : Some i ≡ place_of (length rs) number) (lt : i < length rs) (d : Register) where
     here : register_at (listings rs) i ≡ listing (get_or rs i d)
@@ -42,30 +38,13 @@ module _ (change : Listing → Changed) (number : ℕ) (rs : List Register) wher
         let h : answer_of (change (listing (get_or rs i d))) ≡ change_answer change number (listings rs) = rw p (ap (λ (l : Listing). answer_of (change l)) (sym here)) in
         is ∙ h
 
--- A register put on top.
-not_err : {X Y : Type 0} (r : Result X Y) → false ≡ is_err r → is_ok r ≡ true
-not_err (Ok x) e = refl
-not_err (Err y) e = e
-
-pub put_on_lem : {X Y : Type 0} (r : Result X Y) → false ≡ is_err r → (q q' : Rows) (rs rs' : List Register) (x : Register) (k : Sort) → rs' ≡ cond (is_ok r) (x ∷ rs) rs → listing x ≡ empty_of k → q' ≡ q → stands q' (listings rs') ≡ put_on k (stands q (listings rs))
-put_on_lem r fine q q' rs rs' x k e empty same =
-    let f : rs' ≡ x ∷ rs = e ∙ ap (λ (b : Bool). cond b (x ∷ rs) rs) (not_err r fine) in
-    both q' q (listings rs') (empty_of k ∷ listings rs) same (ap listings f ∙ ap (λ (l : Listing). l ∷ listings rs) empty)
-
 -- A claim that was made, and a debit with it.
 granted : (t c : Terms) (b : Bool) → ◌≡◌ {A = Result Terms Denial} (Ok t) (cond b (Ok c) (Err OutsideWidth)) → (b ≡ true) × (t ≡ c)
 granted t c true e = let z : t ≡ c = cc in (refl, z)
 granted t c false e = let z : ◌≡◌ {A = ℕ} 0 1 = cc in absurd (omega arith)
 
 module _ (t c : Terms) (made : ◌≡◌ {A = Result Terms Denial} (Ok t) (cond (wide c) (Ok c) (Err OutsideWidth))) (q : Rows) (ls : List Listing) where
-  pub answer_asked : (k : ResultCode) → k ≡ verdict_above ls t (books_verdict q t) → ◌≡◌ {A = Result ResultCode Denial} (Ok k) (asked c (stands q ls))
-  answer_asked k e =
-      let g = granted t c (wide c) made in
-      let w = g.0 in
-      let h : k ≡ verdict_above ls c (books_verdict q c) = e ∙ ap (λ (x : Terms). verdict_above ls x (books_verdict q x)) g.1 in
-      rw w (ap Ok h)
-
-  one_debit : (o : Option ResultCode) (q' : Rows) (ls' : List Listing) → MatchOption o ((q' ≡ books_after q c) × (ls' ≡ after c (books_verdict q c) ls)) (λ _. (ls' ≡ ls) × (q' ≡ q)) → stands q' ls' ≡ either o (passed_down c (stands q ls)) (λ _. stands q ls)
+  one_debit : (o : Option ResultCode) (q' : Rows) (ls' : List Listing) → MatchOption o ((q' ≡ books_after q c) × (ls' ≡ after c (books_verdict q c) ls)) (λ _. (ls' ≡ ls) × (q' ≡ q)) → stands q' ls' ≡ option_map_or (λ _. stands q ls) o (passed_down c (stands q ls))
   one_debit None q' ls' d = both q' (books_after q c) ls' (after c (books_verdict q c) ls) d.0 d.1
   one_debit (Some k) q' ls' d = both q' q ls' ls d.1 d.0
 

@@ -1,5 +1,6 @@
 -- What the program holds, and what each step makes of it: the rows of ledger and sheet, and the registers above, uppermost first.
 use Rattle.std.specs.Prelude.{ℕ, ◌-◌, Bool, cond, ◌&&◌, List, [], ◌∷◌, length, Some, None, Ok, Err, vec_items, Option, Result, nat_le, slice_index_or, slice_set}
+use Rattle.std.specs.Option.{option_map_or, option_and_then}
 use Rattle.denials.specs.declared.Denial.{Denial}
 use Rattle.denials.specs.declared.Denial.TheVariants.{OutsideWidth}
 use Rattle.claims.specs.declared.terms.Terms.{Terms}
@@ -7,7 +8,6 @@ use Rattle.claims.specs.declared.codes.ResultCode.{ResultCode}
 use Rattle.claims.specs.Widths.{wide}
 use Rattle.hosts.specs.declared.ledger.LedgerRow.{LedgerRow}
 use Rattle.hosts.specs.declared.sheet.SheetRow.{SheetRow}
-use Rattle.hosts.specs.Firsts.{either}
 use Rattle.registers.specs.Listings.{Listing, holders, billers, mandates, ceilings}
 use Rattle.registers.specs.Piles.{listings, objection, verdict_above, after}
 use Rattle.books.specs.declared.Bottom.{Bottom}
@@ -25,7 +25,7 @@ abbrev pub stands : Rows → List Listing → Standing
 stands r ls = record { rows = r; registers = ls }
 
 abbrev pub standing : Desk → Standing
-standing d = stands (rows_of d.pile.below) (listings (vec_items d.pile.registers))
+standing d = stands (rows_of d.pile.below) (listings (vec_items d.pile.layer))
 
 abbrev pub empty_desk : Standing
 empty_desk = stands no_rows []
@@ -68,14 +68,14 @@ register_at ls i = slice_index_or ls i (holders [])
 
 -- the registers with that one changed
 abbrev pub registers_changed : (Listing → Changed) → ℕ → List Listing → List Listing
-registers_changed change number ls = either (place_of (length ls) number) ls (λ i. slice_set ls i (afterwards (register_at ls i) (change (register_at ls i))))
+registers_changed change number ls = option_map_or (λ i. slice_set ls i (afterwards (register_at ls i) (change (register_at ls i)))) (place_of (length ls) number) ls
 
 abbrev pub changed_at : (Listing → Changed) → ℕ → Standing → Standing
 changed_at change number s = stands s.rows (registers_changed change number s.registers)
 
 -- none where there is no register of that number
 abbrev pub change_answer : (Listing → Changed) → ℕ → List Listing → Option (Result (Unit {0}) Denial)
-change_answer change number ls = either (place_of (length ls) number) None (λ i. answer_of (change (register_at ls i)))
+change_answer change number ls = option_and_then (λ i. answer_of (change (register_at ls i))) (place_of (length ls) number)
 
 -- what the pile says of a claim with these terms, or that there can be no such claim
 abbrev pub asked : Terms → Standing → Result ResultCode Denial
@@ -86,7 +86,7 @@ abbrev pub passed_down : Terms → Standing → Standing
 passed_down c s = stands (books_after s.rows c) (after c (books_verdict s.rows c) s.registers)
 
 abbrev pub debited : Terms → Standing → Standing
-debited c s = cond (wide c) (either (objection s.registers c) (passed_down c s) (λ _. s)) s
+debited c s = cond (wide c) (option_map_or (λ _. s) (objection s.registers c) (passed_down c s)) s
 
 abbrev pub figure_of : ℕ → Standing → ℕ
 figure_of a s = books_taken s.rows a

@@ -1,3 +1,5 @@
 pub mod Desk
 pub mod Performed
+pub mod Printed
 pub mod Staff
+pub mod Told

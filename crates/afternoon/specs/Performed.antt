@@ -1,11 +1,10 @@
 -- What each command of a script makes of what the program holds, and its answer.
-use Rattle.std.specs.Prelude.{◌+◌, Bool, true, false, cond, length, Some, None, Ok, Err, Option, Result}
-use Rattle.denials.specs.declared.Denial.{Denial}
-use Rattle.claims.specs.declared.codes.ResultCode.{ResultCode}
+use Rattle.std.specs.Prelude.{◌+◌, Bool, true, false, cond, length}
 use Rattle.afternoon.specs.declared.commands.Command.{Command}
 use Rattle.afternoon.specs.declared.commands.Command.TheVariants as command
 use Rattle.afternoon.specs.declared.commands.Answer.{Answer}
 use Rattle.afternoon.specs.declared.commands.Answer.TheVariants as answer
+use Rattle.afternoon.specs.Told.{change_told, code_told}
 use Rattle.afternoon.specs.Staff.{list_in, strike_in}
 use Rattle.afternoon.specs.Desk.{Standing, added_to_ledger, added_to_sheet, used_bottom, put_on, taken_off, any_register, changed_at, change_answer, asked, debited, figure_of}
 
@@ -36,15 +35,6 @@ performed s (command.Taken a) = s
 
 abbrev pub off_told : Bool → Answer
 off_told b = cond b answer.Done answer.Absent
-
-abbrev pub change_told : Option (Result (Unit {0}) Denial) → Answer
-change_told None = answer.Absent
-change_told (Some (Ok done)) = answer.Done
-change_told (Some (Err d)) = answer.Denied d
-
-abbrev pub code_told : Result ResultCode Denial → Answer
-code_told (Ok k) = answer.Code k
-code_told (Err d) = answer.Denied d
 
 abbrev pub answer_to : Standing → Command → Answer
 answer_to s (command.Ledger row) = answer.Done

@@ -1,4 +1,7 @@
 // The commands of a script, and the answers to them.
+ghost use Rattle.std.specs.Prelude.{◌≡◌};
+ghost use Rattle.afternoon.specs.Told.{change_told, code_told};
+
 use crate::staff::Entry;
 use books::Bottom;
 use claims::codes::ResultCode;
@@ -6,9 +9,10 @@ use claims::terms::Terms;
 use denials::Denial;
 use hosts::ledger::LedgerRow;
 use hosts::sheet::SheetRow;
+use std::fmt;
 
 /// The four sorts of register.
-#[derive(Clone, Copy)]
+#[derive(Clone, Copy, Debug, PartialEq, Eq)]
 pub enum Sort {
     Holder,
     Biller,
@@ -37,7 +41,7 @@ pub enum Command {
     Taken { account: u64 },
 }
 
-#[derive(Clone, Copy)]
+#[derive(Clone, Copy, Debug, PartialEq, Eq)]
 pub enum Answer {
     Done,
     /// There is no such register, or the numbers do not fit its sort.
@@ -47,4 +51,47 @@ pub enum Answer {
     Code(ResultCode),
     Taken(u64),
     Denied(Denial),
+}
+
+/// The answer to staff who changed a register, where there is one that the row fits.
+impl From<Option<Result<(), Denial>>> for Answer {
+    ghost from_gives = { λ x r. r ≡ change_told x };
+
+    fn from(change: Option<Result<(), Denial>>) -> Answer {
+        match change {
+            None => Answer::Absent,
+            Some(Ok(())) => Answer::Done,
+            Some(Err(denial)) => Answer::Denied(denial),
+        }
+    }
+}
+
+/// The answer to an inquiry or a debit.
+impl From<Result<ResultCode, Denial>> for Answer {
+    ghost from_gives = { λ x r. r ≡ code_told x };
+
+    fn from(said: Result<ResultCode, Denial>) -> Answer {
+        match said {
+            Ok(code) => Answer::Code(code),
+            Err(denial) => Answer::Denied(denial),
+        }
+    }
+}
+
+impl fmt::Display for Answer {
+    ghost use Rattle.std.specs.Prelude.{Some};
+    ghost use Rattle.afternoon.specs.Printed.{answer_text};
+
+    ghost output = { λ answer. Some (answer_text answer) };
+
+    fn fmt<W: fmt::Write>(&self, f: &mut fmt::Formatter<W>) -> fmt::Result {
+        match self {
+            Answer::Done => f.write_str("OK"),
+            Answer::Absent => f.write_str("NONE"),
+            Answer::Register(number) => write!(f, "REGISTER {number}"),
+            Answer::Code(code) => write!(f, "CODE {code}"),
+            Answer::Taken(figure) => write!(f, "TAKEN {figure}"),
+            Answer::Denied(denial) => write!(f, "DENIED {denial}"),
+        }
+    }
 }

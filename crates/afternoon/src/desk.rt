@@ -1,10 +1,11 @@
 // The state that replay holds, one pile above a ledger and a sheet, and what each command does to it.
 // The steps take the pile apart where a part of it is changed, and pile it again.
-ghost use Rattle.std.specs.Prelude.{◌≡◌, ℕ, ◌<◌, true, length, IfSome, is_ok, IfOk, if◌then◌else◌, vec_len, vec_capacity};
-ghost use Rattle.registers.specs.Listings.{listing};
+ghost use Rattle.std.specs.Prelude.{◌≡◌, ℕ, ◌<◌, length, IfSome, is_ok, IsOk, IfOk, if◌then◌else◌, vec_len, vec_capacity};
+ghost use Rattle.std.specs.Fn.{FnOnceReturnsAtMut};
+ghost use Rattle.registers.specs.Listings.{Listing, listing};
 ghost use Rattle.registers.specs.Piles.{listings};
 ghost use Rattle.afternoon.specs.Desk.{standing, empty_desk, added_to_ledger, added_to_sheet, used_bottom, empty_of, put_on, taken_off, any_register, place_of, registers_changed, change_answer, changed_at, asked, debited, figure_of};
-ghost use Rattle.afternoon.specs.Staff.{list_in, strike_in};
+ghost use Rattle.afternoon.specs.Staff.{Changed, Means, list_in, strike_in};
 
 use crate::commands::Sort;
 use crate::staff::{Entry, list_in, strike_in};
@@ -43,32 +44,24 @@ fn place_of(registers: usize, number: u64) -> Option<usize>
     ensures value { result ≡ place_of registers number }
     ensures within { IfSome result (λ i. i < registers) }
 {
-    if number == 0 || number > registers as u64 {
-        return None;
-    }
-    Some(registers - number as usize)
+    let number = usize::try_from(number).ok()?;
+    registers.checked_sub(number).filter(|i| *i < registers)
 }
 
-// Lists a row in the register of that number.
-fn list_at(registers: &mut [Register], number: u64, entry: Entry) -> Option<Result<(), Denial>>
-    ensures rows { listings registers.new ≡ registers_changed (λ l. list_in l entry) number (listings registers.old) }
-    ensures answer { result ≡ change_answer (λ l. list_in l entry) number (listings registers.old) }
+// Changes the register of that number; `meaning` is what the change makes of a register.
+fn change_at<F: FnOnce(&mut Register) -> Option<Result<(), Denial>>>(
+    registers: &mut [Register],
+    number: u64,
+    change: F,
+) -> Option<Result<(), Denial>>
+    ghost meaning: { Listing → Changed }
+    requires callable { F.IsAlwaysCallable change }
+    requires means { (x : _) (r : _) (y : _) → FnOnceReturnsAtMut F.FnOnce change x r y → Means meaning x r y }
+    ensures rows { listings registers.new ≡ registers_changed meaning number (listings registers.old) }
+    ensures answer { result ≡ change_answer meaning number (listings registers.old) }
 {
-    let Some(i) = place_of(registers.len(), number) else {
-        return None;
-    };
-    list_in(&mut registers[i], entry)
-}
-
-// Strikes a row off the register of that number.
-fn strike_at(registers: &mut [Register], number: u64, entry: Entry) -> Option<Result<(), Denial>>
-    ensures rows { listings registers.new ≡ registers_changed (λ l. strike_in l entry) number (listings registers.old) }
-    ensures answer { result ≡ change_answer (λ l. strike_in l entry) number (listings registers.old) }
-{
-    let Some(i) = place_of(registers.len(), number) else {
-        return None;
-    };
-    strike_in(&mut registers[i], entry)
+    let i = place_of(registers.len(), number)?;
+    change(&mut registers[i])
 }
 
 impl Desk {
@@ -81,42 +74,41 @@ impl Desk {
         }
     }
 
+    // Adding to the ledger and adding to the sheet stay two functions: they share no line but the taking apart and the piling again.
+    // One over both sorts of row would want a trait of rows with an impl for each, and one that takes a closure two clauses more.
+
     /// Adds a ledger row.
     pub fn add_to_ledger(self, row: LedgerRow) -> Result<Desk, AllocError>
         ensures desk { IfOk result (λ d. standing d ≡ added_to_ledger row (standing self)) }
-        ensures succeeds { vec_len self.pile.below.ledger.rows < vec_capacity self.pile.below.ledger.rows → is_ok result ≡ true }
+        ensures succeeds { vec_len self.pile.below.ledger.rows < vec_capacity self.pile.below.ledger.rows → IsOk result }
     {
-        let (mut books, registers) = self.pile.take_apart();
-        match books.add_ledger_row(row) {
-            Ok(()) => Ok(Desk {
-                pile: Pile::stack(books, registers),
-            }),
-            Err(_) => Err(AllocError),
-        }
+        let (registers, mut books) = self.pile.take_apart();
+        books.add_ledger_row(row)?;
+        Ok(Desk {
+            pile: Pile::pile(registers, books),
+        })
     }
 
     /// Adds a sheet row.
     pub fn add_to_sheet(self, row: SheetRow) -> Result<Desk, AllocError>
         ensures desk { IfOk result (λ d. standing d ≡ added_to_sheet row (standing self)) }
-        ensures succeeds { vec_len self.pile.below.sheet.rows < vec_capacity self.pile.below.sheet.rows → is_ok result ≡ true }
+        ensures succeeds { vec_len self.pile.below.sheet.rows < vec_capacity self.pile.below.sheet.rows → IsOk result }
     {
-        let (mut books, registers) = self.pile.take_apart();
-        match books.add_sheet_row(row) {
-            Ok(()) => Ok(Desk {
-                pile: Pile::stack(books, registers),
-            }),
-            Err(_) => Err(AllocError),
-        }
+        let (registers, mut books) = self.pile.take_apart();
+        books.add_sheet_row(row)?;
+        Ok(Desk {
+            pile: Pile::pile(registers, books),
+        })
     }
 
     /// Makes the ledger or the sheet the bottom host.
     pub fn take_into_use(self, bottom: Bottom) -> Desk
         ensures { standing result ≡ used_bottom bottom (standing self) }
     {
-        let (mut books, registers) = self.pile.take_apart();
+        let (registers, mut books) = self.pile.take_apart();
         books.take_into_use(bottom);
         Desk {
-            pile: Pile::stack(books, registers),
+            pile: Pile::pile(registers, books),
         }
     }
 
@@ -126,9 +118,7 @@ impl Desk {
         ensures number { IfOk result (λ n. n ≡ length (standing self.new).registers) }
     {
         let register = empty_register(heap, sort)?;
-        if self.pile.put(register).is_err() {
-            return Err(AllocError);
-        }
+        self.pile.put(register)?;
         Ok(self.pile.registers().len())
     }
 
@@ -140,16 +130,32 @@ impl Desk {
         self.pile.take_off().is_some()
     }
 
+    // The same in the pile. That no taken figure moves is a fact about two states, so it is said here and of the two public calls.
+    fn change<F: FnOnce(&mut Register) -> Option<Result<(), Denial>>>(
+        self,
+        number: u64,
+        change: F,
+    ) -> (Desk, Option<Result<(), Denial>>)
+        ghost meaning: { Listing → Changed }
+        requires callable { F.IsAlwaysCallable change }
+        requires means { (x : _) (r : _) (y : _) → FnOnceReturnsAtMut F.FnOnce change x r y → Means meaning x r y }
+        ensures desk { standing result.0 ≡ changed_at meaning number (standing self) }
+        ensures answer { result.1 ≡ change_answer meaning number (standing self).registers }
+        ensures taken { (account : ℕ) → figure_of account (standing result.0) ≡ figure_of account (standing self) }
+    {
+        let (mut registers, books) = self.pile.take_apart();
+        let answer = change_at(registers.as_mut_slice(), number, change);
+        let pile = Pile::pile(registers, books);
+        (Desk { pile }, answer)
+    }
+
     /// Lists a row in the register of that number.
     pub fn list(self, number: u64, entry: Entry) -> (Desk, Option<Result<(), Denial>>)
         ensures desk { standing result.0 ≡ changed_at (λ l. list_in l entry) number (standing self) }
         ensures answer { result.1 ≡ change_answer (λ l. list_in l entry) number (standing self).registers }
         ensures taken { (account : ℕ) → figure_of account (standing result.0) ≡ figure_of account (standing self) }
     {
-        let (books, mut registers) = self.pile.take_apart();
-        let answer = list_at(registers.as_mut_slice(), number, entry);
-        let pile = Pile::stack(books, registers);
-        (Desk { pile }, answer)
+        self.change(number, |register| list_in(register, entry))
     }
 
     /// Strikes a row off the register of that number.
@@ -158,17 +164,14 @@ impl Desk {
         ensures answer { result.1 ≡ change_answer (λ l. strike_in l entry) number (standing self).registers }
         ensures taken { (account : ℕ) → figure_of account (standing result.0) ≡ figure_of account (standing self) }
     {
-        let (books, mut registers) = self.pile.take_apart();
-        let answer = strike_at(registers.as_mut_slice(), number, entry);
-        let pile = Pile::stack(books, registers);
-        (Desk { pile }, answer)
+        self.change(number, |register| strike_in(register, entry))
     }
 
     /// Tells the pile's verdict on a claim with these terms.
     pub fn inquire(&self, terms: Terms) -> Result<ResultCode, Denial>
         ensures { result ≡ asked terms (standing self.now) }
     {
-        let claim = Claim::new(terms)?;
+        let claim = Claim::try_from(terms)?;
         Ok(self.pile.inquire(&claim))
     }
 
@@ -177,7 +180,7 @@ impl Desk {
         ensures answer { result ≡ asked terms (standing self.old) }
         ensures desk { standing self.new ≡ debited terms (standing self.old) }
     {
-        let claim = Claim::new(terms)?;
+        let claim = Claim::try_from(terms)?;
         Ok(self.pile.debit(&claim))
     }
 

@@ -1,43 +1,23 @@
 // A command performed: what the desk holds afterwards, and the answer.
-ghost use Rattle.std.specs.Prelude.{◌≡◌, true, false, is_ok, IfOk};
+ghost use Rattle.std.specs.Prelude.{◌≡◌, false, IsOk, IfOk};
 ghost use Rattle.afternoon.specs.Desk.{standing};
-ghost use Rattle.afternoon.specs.Performed.{needs_memory, performed, off_told, change_told, code_told, answer_to};
+ghost use Rattle.afternoon.specs.Performed.{needs_memory, performed, off_told, answer_to};
 
 use crate::commands::{Answer, Command};
 use crate::desk::Desk;
-use claims::codes::ResultCode;
-use denials::Denial;
 use std::alloc::{AllocError, Global};
 
+// A function and no `From<bool>`, which would hide which way round it is.
 fn off_told(any: bool) -> Answer
     ensures { result ≡ off_told any }
 {
     if any { Answer::Done } else { Answer::Absent }
 }
 
-fn change_told(answer: Option<Result<(), Denial>>) -> Answer
-    ensures { result ≡ change_told answer }
-{
-    match answer {
-        None => Answer::Absent,
-        Some(Ok(())) => Answer::Done,
-        Some(Err(denial)) => Answer::Denied(denial),
-    }
-}
-
-fn code_told(answer: Result<ResultCode, Denial>) -> Answer
-    ensures { result ≡ code_told answer }
-{
-    match answer {
-        Ok(code) => Answer::Code(code),
-        Err(denial) => Answer::Denied(denial),
-    }
-}
-
 /// Performs one command. Only a row or a register that is added can want memory.
 pub fn perform(desk: Desk, heap: Global, command: Command) -> Result<(Desk, Answer), AllocError>
     ensures done { IfOk result (λ p. (standing p.0 ≡ performed (standing desk) command) × (p.1 ≡ answer_to (standing desk) command)) }
-    ensures memory { needs_memory command ≡ false → is_ok result ≡ true }
+    ensures memory { needs_memory command ≡ false → IsOk result }
 {
     let mut desk = desk;
     match command {
@@ -54,18 +34,18 @@ pub fn perform(desk: Desk, heap: Global, command: Command) -> Result<(Desk, Answ
         }
         Command::List { number, entry } => {
             let (desk, answer) = desk.list(number, entry);
-            Ok((desk, change_told(answer)))
+            Ok((desk, answer.into()))
         }
         Command::Strike { number, entry } => {
             let (desk, answer) = desk.strike(number, entry);
-            Ok((desk, change_told(answer)))
+            Ok((desk, answer.into()))
         }
         Command::Inquire(terms) => {
-            let answer = code_told(desk.inquire(terms));
+            let answer = desk.inquire(terms).into();
             Ok((desk, answer))
         }
         Command::Debit(terms) => {
-            let answer = code_told(desk.debit(terms));
+            let answer = desk.debit(terms).into();
             Ok((desk, answer))
         }
         Command::Taken { account } => {

@@ -6,10 +6,9 @@ use Rattle.claims.specs.declared.codes.ResultCode.TheVariants.{Settled}
 use Rattle.claims.specs.Widths.{fifteen_digits, Wide}
 use Rattle.hosts.specs.declared.ledger.LedgerRow.{LedgerRow}
 use Rattle.hosts.specs.declared.sheet.SheetRow.{SheetRow}
-use Rattle.hosts.specs.Meaning.{figure_limit, share}
+use Rattle.hosts.specs.Meaning.{HostLaws, figure_limit, share}
 use Rattle.hosts.specs.Ledgers.{ledger_verdict, ledger_taken, ledger_after}
 use Rattle.hosts.specs.Sheets.{sheet_verdict, sheet_taken, sheet_after}
-use Rattle.hosts.specs.Layers.{Laws}
 use Rattle.hosts.specs.LedgersLemmas.{ledger_laws}
 use Rattle.hosts.specs.SheetsLemmas.{sheet_laws}
 use Rattle.books.specs.declared.Bottom.{Bottom}
@@ -36,11 +35,11 @@ module _ (ls : List LedgerRow) (ss : List SheetRow) (c : Terms) (w : Wide c) whe
   within Ledger v = ledger_laws.limit ls c w v
   within Sheet v = sheet_laws.limit ss c w v
 
-pub books_laws : Laws {S = Rows} books_verdict books_taken (λ s c t. t ≡ books_after s c) (λ _. []) books_verdict
+pub books_laws : HostLaws {S = Rows} books_verdict books_taken (λ s c t. t ≡ books_after s c) (λ _. []) books_verdict
 books_laws = record {
   raises = λ s t c w d v a l. ap (λ (r : Rows). books_taken r a) d ∙ raised s.ledger s.sheet c w s.in_use v a l;
   figures = λ s t c w d n a l. ap (λ (r : Rows). books_taken r a) d ∙ same_figure s.ledger s.sheet c w s.in_use n a l;
   verdicts = λ s t c w d n x wx. ap (λ (r : Rows). books_verdict r x) d ∙ same_verdict s.ledger s.sheet c w s.in_use n x wx;
   limit = λ s c w v. within s.ledger s.sheet c w s.in_use v;
-  highest = λ s c w. refl;
+  uppermost = λ s c w. refl;
 }

@@ -1,7 +1,10 @@
 // The seven result codes: what each is called, its number, and the digit that stands for it in a record.
-ghost use Rattle.std.specs.Prelude.{◌≡◌, ◌+◌, Some, None};
-ghost use Rattle.claims.specs.declared.codes.ResultCode.{ResultCode};
-ghost use Rattle.claims.specs.Codes.{number_of, code_numbered};
+ghost use Rattle.std.specs.Prelude.{◌≡◌, ◌+◌};
+ghost use Rattle.claims.specs.Codes.{number_of};
+ghost use Rattle.claims.specs.Numbers.{Numbered};
+
+use std::error::Error;
+use std::fmt;
 
 /// What became of a claim.
 #[derive(Clone, Copy, Debug, PartialEq, Eq)]
@@ -15,11 +18,25 @@ pub enum ResultCode {
     Other,
 }
 
+/// A number that none of the seven codes has.
+#[derive(Clone, Copy, Debug, PartialEq, Eq)]
+pub struct UnknownCode(pub u8);
+
 impl ResultCode {
-    pub fn number(self) -> u8
-        ensures { result ≡ number_of self }
+    /// The digit of the code's number, as a record bears it.
+    pub fn digit(self) -> u8
+        ensures { result ≡ 48 + number_of self }
     {
-        match self {
+        b'0' + u8::from(self)
+    }
+}
+
+/// The code's number.
+impl From<ResultCode> for u8 {
+    ghost from_gives = { λ code number. number ≡ number_of code };
+
+    fn from(code: ResultCode) -> u8 {
+        match code {
             ResultCode::Settled => 0,
             ResultCode::ShortOfFunds => 1,
             ResultCode::NoAccount => 2,
@@ -29,35 +46,49 @@ impl ResultCode {
             ResultCode::Other => 9,
         }
     }
+}
 
-    /// The digit of the code's number, as a record bears it.
-    pub fn digit(self) -> u8
-        ensures { result ≡ 48 + number_of self }
-    {
-        b'0' + self.number()
-    }
+/// The code of that number, if it is one of the seven.
+impl TryFrom<u8> for ResultCode {
+    type Error = UnknownCode;
 
-    /// The code of that number, if it is one of the seven.
-    pub fn numbered(number: u8) -> Option<ResultCode>
-        ensures answer { result ≡ code_numbered number }
-        ensures named { (code : ResultCode) → number ≡ number_of code → result ≡ Some code }
-        ensures only { (code : ResultCode) → result ≡ Some code → number ≡ number_of code }
-    {
-        code_numbered(number)
+    ghost try_from_gives = { Numbered };
+
+    fn try_from(number: u8) -> Result<ResultCode, UnknownCode> {
+        match number {
+            0 => Ok(ResultCode::Settled),
+            1 => Ok(ResultCode::ShortOfFunds),
+            2 => Ok(ResultCode::NoAccount),
+            3 => Ok(ResultCode::StoppedByHolder),
+            4 => Ok(ResultCode::NoMandate),
+            8 => Ok(ResultCode::StoppedByBiller),
+            9 => Ok(ResultCode::Other),
+            _ => Err(UnknownCode(number)),
+        }
     }
 }
 
-fn code_numbered(number: u8) -> Option<ResultCode>
-    ensures { result ≡ code_numbered number }
-{
-    match number {
-        0 => Some(ResultCode::Settled),
-        1 => Some(ResultCode::ShortOfFunds),
-        2 => Some(ResultCode::NoAccount),
-        3 => Some(ResultCode::StoppedByHolder),
-        4 => Some(ResultCode::NoMandate),
-        8 => Some(ResultCode::StoppedByBiller),
-        9 => Some(ResultCode::Other),
-        _ => None,
+/// A code is told by its number.
+impl fmt::Display for ResultCode {
+    ghost use Rattle.std.specs.Prelude.{Some};
+    ghost use Rattle.claims.specs.Printed.{code_text};
+
+    ghost output = { λ code. Some (code_text code) };
+
+    fn fmt<W: fmt::Write>(&self, f: &mut fmt::Formatter<W>) -> fmt::Result {
+        write!(f, "{}", u8::from(*self))
     }
 }
+
+impl fmt::Display for UnknownCode {
+    ghost use Rattle.std.specs.Prelude.{Some};
+    ghost use Rattle.claims.specs.Printed.{unknown_text};
+
+    ghost output = { λ unknown. Some (unknown_text unknown) };
+
+    fn fmt<W: fmt::Write>(&self, f: &mut fmt::Formatter<W>) -> fmt::Result {
+        write!(f, "no result code has the number {}", self.0)
+    }
+}
+
+impl Error for UnknownCode {}

@@ -22,15 +22,7 @@ impl Host for AlwaysOther {
 
     ghost bottom_verdict = { λ _ _. Other };
 
-    ghost raises = { Prim.search rules };
-
-    ghost figures = { Prim.search rules };
-
-    ghost verdicts = { Prim.search rules };
-
-    ghost limit = { Prim.search rules };
-
-    ghost uppermost = { Prim.search rules };
+    ghost laws = { Prim.search rules };
 
     fn inquire(&self, _claim: &Claim) -> ResultCode {
         ResultCode::Other

@@ -25,20 +25,24 @@ const NINES: u64 = 9_999_999_999;
 // The largest of fifteen.
 const LIMIT: u64 = 999_999_999_999_999;
 
-// A claim of this amount; customer number 41.
-fn claim_of(amount: u64) -> Result<Claim, Denial> {
-    Claim::new(Terms {
+// The terms of a claim of this amount; customer number 41.
+fn terms_of(amount: u64) -> Terms {
+    Terms {
         biller: BILLER,
         account: ACCOUNT,
         high: 0,
         low: 41,
         amount,
-    })
+    }
+}
+
+fn claim_of(amount: u64) -> Result<Claim, Denial> {
+    Claim::try_from(terms_of(amount))
 }
 
 // Whether a claim can be made of these numbers.
 fn made(biller: u64, account: u64, high: u64, low: u64, amount: u64) -> Result<(), Denial> {
-    Claim::new(Terms {
+    Claim::try_from(Terms {
         biller,
         account,
         high,
@@ -60,11 +64,7 @@ fn ledger_of(heap: Global, balance: u64, taken: u64) -> Result<Ledger, Fail> {
 
 fn sheet_row(amount: u64, code: u8) -> SheetRow {
     SheetRow {
-        biller: BILLER,
-        account: ACCOUNT,
-        high: 0,
-        low: 41,
-        amount,
+        terms: terms_of(amount),
         code,
         spent: false,
     }
@@ -315,7 +315,7 @@ fn a_foreign_host_below_registers_is_asked_last(rt: HostRuntime) -> Result<(), F
     let heap = rt.alloc();
     let mut pile = Above::pile(no_mandates(heap)?, AlwaysOther);
     assert_eq!(rt; pile.debit(&claim_of(1)?), ResultCode::NoMandate);
-    let (_register, mut host) = pile.take_off();
+    let (_register, mut host) = pile.take_apart();
     assert_eq!(rt; host.debit(&claim_of(1)?), ResultCode::Other);
     assert_eq!(rt; host.tell_taken(ACCOUNT), 0);
     Ok(())

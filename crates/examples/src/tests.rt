@@ -33,12 +33,8 @@ fn one_group(
     }
     file.extend_from_slice(b"8")?;
     file.extend_from_slice(stated)?;
-    for _ in 0..36 {
-        file.extend_from_slice(b"0")?;
-    }
-    for _ in 0..65 {
-        file.extend_from_slice(b" ")?;
-    }
+    file.extend_from_slice(&[b'0'; 36])?;
+    file.extend_from_slice(&[b' '; 65])?;
     file.extend_from_slice(END)?;
     Ok(file)
 }

@@ -1,24 +1,23 @@
 -- A layer that objects or passes down keeps the laws of a host, if what stands below keeps them.
 use Rattle.std.specs.Prelude.{◌≡◌, ℕ, ◌≤◌, List, [], ◌∷◌, ◌++◌, Some, None, Option, MatchOption, ◌≢◌, refl}
 use Rattle.std.proofs.Common.{sym, ap, ◌∙◌}
-use Rattle.std.specs.Option.{unwrap_or}
+use Rattle.std.specs.Option.{unwrap_or, option_map_or}
 use Rattle.claims.specs.declared.terms.Terms.{Terms}
 use Rattle.claims.specs.declared.codes.ResultCode.{ResultCode}
 use Rattle.claims.specs.declared.codes.ResultCode.TheVariants.{Settled}
 use Rattle.claims.specs.Widths.{fifteen_digits, Wide}
-use Rattle.hosts.specs.Firsts.{either}
-use Rattle.hosts.specs.Meaning.{SettlingRaises, RefusingKeepsFigures, RefusingKeepsVerdicts, SettlingWithinLimit, VerdictOfTheUppermost, answered, uppermost}
+use Rattle.hosts.specs.Meaning.{HostLaws, answered, uppermost}
 
-passed_on : (o p q : Option ResultCode) → either o (either p q Some) Some ≡ either (either o p Some) q Some
+passed_on : (o p q : Option ResultCode) → option_map_or Some o (option_map_or Some p q) ≡ option_map_or Some (option_map_or Some o p) q
 passed_on None p q = refl
 passed_on (Some k) p q = refl
 
 -- the objection of registers above others
-uppermost_above : (xs ys : List (Terms → Option ResultCode)) (c : Terms) → uppermost (xs ++ ys) c ≡ either (uppermost xs c) (uppermost ys c) Some
+uppermost_above : (xs ys : List (Terms → Option ResultCode)) (c : Terms) → uppermost (xs ++ ys) c ≡ option_map_or Some (uppermost xs c) (uppermost ys c)
 uppermost_above [] ys c = refl
-uppermost_above (x ∷ xs) ys c = ap (λ (o : Option ResultCode). either (x c) o Some) (uppermost_above xs ys c) ∙ passed_on (x c) (uppermost xs c) (uppermost ys c)
+uppermost_above (x ∷ xs) ys c = ap (λ (o : Option ResultCode). option_map_or Some (x c) o) (uppermost_above xs ys c) ∙ passed_on (x c) (uppermost xs c) (uppermost ys c)
 
-answered_by : (o p : Option ResultCode) (g : ResultCode) → unwrap_or (either o p Some) g ≡ unwrap_or o (unwrap_or p g)
+answered_by : (o p : Option ResultCode) (g : ResultCode) → unwrap_or (option_map_or Some o p) g ≡ unwrap_or o (unwrap_or p g)
 answered_by None p g = refl
 answered_by (Some k) p g = refl
 
@@ -26,17 +25,21 @@ answered_by (Some k) p g = refl
 answered_above : (xs ys : List (Terms → Option ResultCode)) (c : Terms) (g : ResultCode) → answered (xs ++ ys) c g ≡ unwrap_or (uppermost xs c) (answered ys c g)
 answered_above xs ys c g = ap (λ (o : Option ResultCode). unwrap_or o g) (uppermost_above xs ys c) ∙ answered_by (uppermost xs c) (uppermost ys c) g
 
--- the five laws together
-pub record Laws {S : Type 0} (verdict : S → Terms → ResultCode) (taken : S → ℕ → ℕ) (debits : S → Terms → S → Type 0) (registers : S → List (Terms → Option ResultCode)) (bottom_verdict : S → Terms → ResultCode) : Type 0 where
-  pub raises : SettlingRaises verdict taken debits
-  pub figures : RefusingKeepsFigures verdict taken debits
-  pub verdicts : RefusingKeepsVerdicts verdict debits
-  pub limit : SettlingWithinLimit verdict taken
-  pub highest : VerdictOfTheUppermost verdict registers bottom_verdict
+-- a host that means what is read from it keeps the laws, if what is read keeps them
+pub read_laws : {S U : Type 0} {verdict : S → Terms → ResultCode} {taken : S → ℕ → ℕ} {debits : S → Terms → S → Type 0} {registers : S → List (Terms → Option ResultCode)} {bottom_verdict : S → Terms → ResultCode}
+    → HostLaws verdict taken debits registers bottom_verdict → (read : U → S)
+    → HostLaws (λ u. verdict (read u)) (λ u. taken (read u)) (λ u c v. debits (read u) c (read v)) (λ u. registers (read u)) (λ u. bottom_verdict (read u))
+read_laws laws read = record {
+  raises = λ u v. laws.raises (read u) (read v);
+  figures = λ u v. laws.figures (read u) (read v);
+  verdicts = λ u v. laws.verdicts (read u) (read v);
+  limit = λ u. laws.limit (read u);
+  uppermost = λ u. laws.uppermost (read u);
+}
 
 -- u stands above below u, and shows above u; kept: nothing changed; rest: what else a debit below comes with
 module _ {S U : Type 0} (verdict : S → Terms → ResultCode) (taken : S → ℕ → ℕ) (debits : S → Terms → S → Type 0) (registers : S → List (Terms → Option ResultCode)) (bottom_verdict : S → Terms → ResultCode)
-    (laws : Laws verdict taken debits registers bottom_verdict)
+    (laws : HostLaws verdict taken debits registers bottom_verdict)
     (below : U → S) (above : U → List (Terms → Option ResultCode)) (rest kept : U → Terms → U → Type 0)
     (never : (u : U) (c : Terms) → uppermost (above u) c ≢ Some Settled)
     (stable : (u v : U) (c : Terms) → rest u c v → (verdict (below u) c ≢ Settled) → above v ≡ above u)
@@ -65,11 +68,11 @@ module _ {S U : Type 0} (verdict : S → Terms → ResultCode) (taken : S → �
   same_verdict u v c None w d n x wx = let high = stable u v c d.1 n in let low = laws.verdicts (below u) (below v) c w d.0 n x wx in cc
   same_verdict u v c (Some k) w d n x wx = let high = kept_above u v c d in let low = kept_below u v c d in cc
 
-  pub layered : Laws layer_verdict (λ u. taken (below u)) layer_debits (λ u. above u ++ registers (below u)) (λ u. bottom_verdict (below u))
+  pub layered : HostLaws layer_verdict (λ u. taken (below u)) layer_debits (λ u. above u ++ registers (below u)) (λ u. bottom_verdict (below u))
   layered = record {
     raises = λ u v c w d is a l. let p = passed u v c (uppermost (above u) c) refl d is in laws.raises (below u) (below v) c w p.0 p.1 a l;
     figures = λ u v c w d n a l. same_figure u v c (uppermost (above u) c) w d n a l;
     verdicts = λ u v c w d n x wx. same_verdict u v c (uppermost (above u) c) w d n x wx;
     limit = λ u c w is. laws.limit (below u) c w (settled_below u c (uppermost (above u) c) refl is);
-    highest = λ u c w. ap (unwrap_or (uppermost (above u) c)) (laws.highest (below u) c w) ∙ sym (answered_above (above u) (registers (below u)) c (bottom_verdict (below u) c));
+    uppermost = λ u c w. ap (unwrap_or (uppermost (above u) c)) (laws.uppermost (below u) c w) ∙ sym (answered_above (above u) (registers (below u)) c (bottom_verdict (below u) c));
   }

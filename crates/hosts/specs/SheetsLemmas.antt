@@ -9,10 +9,11 @@ use Rattle.hosts.specs.declared.sheet.SheetRow.{SheetRow}
 use Rattle.claims.specs.declared.terms.Terms.{Terms}
 use Rattle.claims.specs.declared.codes.ResultCode.TheVariants.{Settled, Other}
 use Rattle.claims.specs.Widths.{Wide}
-use Rattle.hosts.specs.Meaning.{share}
-use Rattle.hosts.specs.Firsts.{first, at_first, place, either}
+use Rattle.std.specs.List.{find, position_from}
+use Rattle.std.specs.Option.{option_map_or}
+use Rattle.hosts.specs.Firsts.{at_first}
 use Rattle.hosts.specs.Sheets.{counted, answers, row_code, figure, spend, sheet_verdict, sheet_taken, sheet_after}
-use Rattle.hosts.specs.Layers.{Laws}
+use Rattle.hosts.specs.Meaning.{HostLaws, share}
 use Rattle.hosts.specs.FirstsLemmas.{at_read, at_none, sum_first, first_true, length_at_first, take_front, set_front, get_or_front}
 use Rattle.claims.proofs.Settling.{not_settled}
 
@@ -49,44 +50,52 @@ capped m n xs ys e h = elim (cases_lt (length xs) m) [
   | inr g ↦ let k : n ≡ m = omega arith in rw (e, k)
 ]
 
+-- so what the rows that count add to a figure is within fifteen digits
+pub small_sum : (a : ℕ) (rs : List SheetRow) → sum_by (figure a) (counted rs) ≤ 999999999999999
+small_sum a rs = omega (arith, sum_small a (counted rs), few rs)
+
+-- a row that counts stands in the sheet, whose length is n
+pub inside : (rs : List SheetRow) (i n : ℕ) → i < length (counted rs) → n ≡ length rs → i < n
+inside rs i n l e = omega (arith, length-take 100000 rs)
+
 -- a sum over rows of which one is spent on a claim rises by the claim's share
-risen : (rs : List SheetRow) (c : Terms) (a : ℕ) (o : Option SheetRow) → Wide c → first (answers c) rs ≡ o → either o Other row_code ≡ Settled → sum_by (figure a) (at_first (answers c) spend rs) ≡ sum_by (figure a) rs + share a c
+risen : (rs : List SheetRow) (c : Terms) (a : ℕ) (o : Option SheetRow) → Wide c → find (answers c) rs ≡ o → option_map_or row_code o Other ≡ Settled → sum_by (figure a) (at_first (answers c) spend rs) ≡ sum_by (figure a) rs + share a c
 risen rs c a None w e v = let z : ◌≡◌ {A = ℕ} 0 1 = cc in absurd (omega arith)
 risen rs c a (Some r) w e v =
     let t = first_true (answers c) rs r e in
-    let s : sum_by (figure a) (at_first (answers c) spend rs) + figure a r ≡ sum_by (figure a) rs + figure a (spend r) = subst (λ (o : Option SheetRow). sum_by (figure a) (at_first (answers c) spend rs) + either o 0 (figure a) ≡ sum_by (figure a) rs + either o 0 (λ x. figure a (spend x))) e (sum_first (answers c) spend (figure a) rs) in
+    let s : sum_by (figure a) (at_first (answers c) spend rs) + figure a r ≡ sum_by (figure a) rs + figure a (spend r) = subst (λ (o : Option SheetRow). sum_by (figure a) (at_first (answers c) spend rs) + option_map_or (figure a) o 0 ≡ sum_by (figure a) rs + option_map_or (λ x. figure a (spend x)) o 0) e (sum_first (answers c) spend (figure a) rs) in
     omega (arith, unspent c r a t, spent_now c r a w (zero_code r v) t)
 
 front : (rs : List SheetRow) (c : Terms) → take 100000 (at_first (answers c) spend (counted rs) ++ drop 100000 rs) ≡ at_first (answers c) spend (counted rs)
 front rs c = take_front 100000 rs (at_first (answers c) spend (counted rs)) (length_at_first (answers c) spend (counted rs))
 
 moved : (rs : List SheetRow) (c : Terms) (a : ℕ) → Wide c → sheet_verdict rs c ≡ Settled → sheet_taken (sheet_after rs c) a ≡ sheet_taken rs a + share a c
-moved rs c a w v = ap (λ (l : List SheetRow). sheet_taken l a) (settled_rows rs c v) ∙ ap (sum_by (figure a)) (front rs c) ∙ risen (counted rs) c a (first (answers c) (counted rs)) w refl v
+moved rs c a w v = ap (λ (l : List SheetRow). sheet_taken l a) (settled_rows rs c v) ∙ ap (sum_by (figure a)) (front rs c) ∙ risen (counted rs) c a (find (answers c) (counted rs)) w refl v
 
 limited : (rs : List SheetRow) (c : Terms) → Wide c → sheet_verdict rs c ≡ Settled → sheet_taken rs c.account + c.amount ≤ 999999999999999
 limited rs c w v =
     let b = c.account in
     let own : share b c ≡ c.amount = rw (eq-eqb b b refl) in
-    omega (arith, own, risen (counted rs) c b (first (answers c) (counted rs)) w refl v, sum_small b (at_first (answers c) spend (counted rs)), length_at_first (answers c) spend (counted rs), few rs)
+    omega (arith, own, risen (counted rs) c b (find (answers c) (counted rs)) w refl v, sum_small b (at_first (answers c) spend (counted rs)), length_at_first (answers c) spend (counted rs), length-take 100000 rs)
 
-pub sheet_laws : Laws {S = List SheetRow} sheet_verdict sheet_taken (λ s c t. t ≡ sheet_after s c) (λ _. []) sheet_verdict
+pub sheet_laws : HostLaws {S = List SheetRow} sheet_verdict sheet_taken (λ s c t. t ≡ sheet_after s c) (λ _. []) sheet_verdict
 sheet_laws = record {
   raises = λ s t c w d v a _. ap (λ (l : List SheetRow). sheet_taken l a) d ∙ moved s c a w v;
   figures = λ s t c w d n a _. ap (λ (l : List SheetRow). sheet_taken l a) (d ∙ same_rows s c n);
   verdicts = λ s t c w d n x _. ap (λ (l : List SheetRow). sheet_verdict l x) (d ∙ same_rows s c n);
   limit = λ s c w v. limited s c w v;
-  highest = λ s c w. refl;
+  uppermost = λ s c w. refl;
 }
 
 module _ (rs : List SheetRow) (t c : Terms) (told : t ≡ c) where
-  pub missing : None ≡ place (answers t) 0 (counted rs) → (Other ≡ sheet_verdict rs c) × (rs ≡ sheet_after rs c)
+  pub missing : None ≡ position_from (answers t) 0 (counted rs) → (Other ≡ sheet_verdict rs c) × (rs ≡ sheet_after rs c)
   missing e =
-      let f = (at_none (answers t) spend (counted rs) e (record { biller = 0; account = 0; high = 0; low = 0; amount = 0; code = 0; spent = false })).0 in
+      let f = (at_none (answers t) spend (counted rs) e (record { terms = c; code = 0; spent = false })).0 in
       let v : Other ≡ sheet_verdict rs t = rw f in
       let d : rs ≡ sheet_after rs t = rw f in
       (v ∙ ap (sheet_verdict rs) told, d ∙ ap (sheet_after rs) told)
 
-  module _ (i : ℕ) (r : SheetRow) (e : Some i ≡ place (answers t) 0 (counted rs)) (l : i < length (counted rs)) (read : r ≡ slice_index_or rs i r) where
+  module _ (i : ℕ) (r : SheetRow) (e : Some i ≡ position_from (answers t) 0 (counted rs)) (l : i < length (counted rs)) (read : r ≡ slice_index_or rs i r) where
     pub says : row_code r ≡ sheet_verdict rs c
     says =
         let f = (at_read (answers t) spend (counted rs) i r e (read ∙ get_or_front 100000 rs i r l)).0 in
@@ -101,7 +110,7 @@ module _ (rs : List SheetRow) (t c : Terms) (told : t ≡ c) where
     pub refused : (row_code r ≢ Settled) → slice_set rs i r ≡ sheet_after rs c
     refused n = ap (set rs i) read ∙ set-get_or rs i r ∙ sym (same_rows rs c (λ v. n (says ∙ v)))
 
--- the loop that sums the figures of the rows ys, read as xs
+-- the figures of the rows ys, read as xs, summed row by row
 module _ (a sum i : ℕ) (xs ys : List SheetRow) (e : xs ≡ ys) (inv : sum ≡ sum_by (figure a) (take i ys)) where
   pub again : (x : ℕ) (d : SheetRow) → sum ≤ i * 9999999999 → i < length xs → x ≡ figure a (slice_index_or xs i d) → (sum + x ≡ sum_by (figure a) (take (i + 1) ys)) × (sum + x ≤ (i + 1) * 9999999999)
   again x d le lt f =

@@ -2,7 +2,7 @@
 ghost use Rattle.std.specs.Prelude.{◌≡◌, ℕ, List, Option};
 ghost use Rattle.claims.specs.declared.terms.Terms.{Terms};
 ghost use Rattle.claims.specs.declared.codes.ResultCode.{ResultCode};
-ghost use Rattle.hosts.specs.Meaning.{SettlingRaises, RefusingKeepsFigures, RefusingKeepsVerdicts, SettlingWithinLimit, VerdictOfTheUppermost};
+ghost use Rattle.hosts.specs.Meaning.{HostLaws};
 
 use claims::claim::Claim;
 use claims::codes::ResultCode;
@@ -40,18 +40,6 @@ pub trait Host {
         ensures answer { result ≡ verdict self.old claim.now.terms }
         ensures once { debits self.old claim.now.terms self.new };
 
-    /// A debit that was settled raises the figure of the claim's account by the amount, and moves no other.
-    ghost raises: { SettlingRaises verdict taken debits };
-
-    /// A debit that was not settled moves no figure.
-    ghost figures: { RefusingKeepsFigures verdict taken debits };
-
-    /// A debit that was not settled moves no verdict.
-    ghost verdicts: { RefusingKeepsVerdicts verdict debits };
-
-    /// A claim is settled only if the raised figure is within the limit.
-    ghost limit: { SettlingWithinLimit verdict taken };
-
-    /// The verdict is that of the uppermost register that objects, or else the bottom host's.
-    ghost uppermost: { VerdictOfTheUppermost verdict registers bottom_verdict };
+    /// What each `impl` must prove: the five laws, which `HostLaws` names.
+    ghost laws: { HostLaws verdict taken debits registers bottom_verdict };
 }

@@ -1,15 +1,16 @@
 // The ledger: a host over rows of account, balance and taken figure. The first row with the account counts.
-ghost use Rattle.std.specs.Prelude.{◌≡◌, ◌<◌, ◌≤◌, true, [], ◌∷◌, ◌++◌, IfSome, is_ok, IfErr, if◌then◌else◌, vec_len, vec_capacity, refl};
+ghost use Rattle.std.specs.Prelude.{◌≡◌, ◌<◌, ◌≤◌, [], IfSome, vec_len};
+ghost use Rattle.std.specs.List.{position_from};
 ghost use Rattle.claims.specs.declared.codes.ResultCode.TheVariants.{Settled};
 ghost use Rattle.claims.specs.Widths.{ten_digits};
-ghost use Rattle.hosts.specs.Firsts.{place};
+ghost use Rattle.hosts.specs.Layers.{read_laws};
 ghost use Rattle.hosts.specs.Ledgers.{of_account, row_verdict, drawn, ledger_verdict, ledger_taken, ledger_after};
 ghost use Rattle.hosts.specs.LedgersLemmas.{ledger_laws};
 
+use crate::book::Book;
 use crate::host::{FIGURE_LIMIT, Host};
 use claims::claim::Claim;
 use claims::codes::ResultCode;
-use std::alloc::{AllocFailed, Global};
 
 #[derive(Clone, Copy)]
 pub struct LedgerRow {
@@ -18,10 +19,7 @@ pub struct LedgerRow {
     pub taken: u64,
 }
 
-#[derive(Drop)]
-pub struct Ledger {
-    rows: Vec<LedgerRow>,
-}
+pub type Ledger = Book<LedgerRow>;
 
 impl LedgerRow {
     fn verdict(&self, amount: u64) -> ResultCode
@@ -48,34 +46,12 @@ impl LedgerRow {
 }
 
 impl Ledger {
-    pub fn new(heap: Global) -> Ledger
-        ensures { result.rows.items ≡ [] }
-    {
-        Ledger {
-            rows: Vec::new(heap),
-        }
-    }
-
-    /// Adds a row after the others; any numbers will do.
-    pub fn add(&mut self, row: LedgerRow) -> Result<(), AllocFailed<LedgerRow>>
-        ensures rows { self.new.rows.items ≡ (if is_ok result then self.old.rows.items ++ row ∷ [] else self.old.rows.items) }
-        ensures refused { IfErr result (λ y. y.value ≡ row) }
-        ensures succeeds { vec_len self.old.rows < vec_capacity self.old.rows → is_ok result ≡ true }
-    {
-        self.rows.push(row)
-    }
-
-    pub fn rows(&self) -> &[LedgerRow]
-        ensures { result.now ≡ self.now.rows.items }
-    {
-        self.rows.as_slice()
-    }
-
     // Where the first row with the account stands.
     fn position(&self, account: u64) -> Option<usize>
-        ensures value { result ≡ place (of_account account) 0 self.now.rows.items }
+        ensures value { result ≡ position_from (of_account account) 0 self.now.rows.items }
         ensures within { IfSome result (λ i. i < vec_len self.now.rows) }
     {
+        // A loop with its index, left at the first match, is the form that the project sets here (docs/DECISIONS.md, "Language forms").
         for (i, row) in self.rows.iter().enumerate() {
             if row.account == account {
                 return Some(i);
@@ -96,16 +72,10 @@ impl Host for Ledger {
 
     ghost bottom_verdict = { λ s. ledger_verdict s.rows.items };
 
-    ghost raises = { λ s t. ledger_laws.raises s.rows.items t.rows.items };
+    ghost laws = { read_laws ledger_laws (λ s. s.rows.items) };
 
-    ghost figures = { λ s t. ledger_laws.figures s.rows.items t.rows.items };
-
-    ghost verdicts = { λ s t. ledger_laws.verdicts s.rows.items t.rows.items };
-
-    ghost limit = { λ s. ledger_laws.limit s.rows.items };
-
-    ghost uppermost = { λ _ _ _. refl };
-
+    // `let .. else` for a missing row, and the row then read and lent by its place, are the forms that the project sets for these three
+    // (docs/DECISIONS.md, "Language forms").
     fn inquire(&self, claim: &Claim) -> ResultCode {
         let terms = claim.terms();
         let Some(i) = self.position(terms.account) else {

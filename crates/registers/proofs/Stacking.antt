@@ -1,36 +1,32 @@
--- Registers one above the other: the walk that finds the uppermost objection, the walk that lowers ceilings, and what holds of any pile.
-use Rattle.std.proofs.Common.{◌≡◌, ℕ, ◌+◌, ◌<◌, ◌≤◌, Bool, true, false, cond, List, [], ◌∷◌, ◌++◌, map, length, get_or, take, drop, set, Some, None, Option, unwrap_or, sym, refl, ap, ◌∙◌, subst, arith, MatchOption}
+-- Registers one above the other: the uppermost that objects, the walk that lowers ceilings, and what holds of any pile.
+use Rattle.std.proofs.Common.{◌≡◌, ℕ, zero, suc, ◌+◌, ◌<◌, ◌≤◌, Bool, true, false, cond, List, [], ◌∷◌, ◌++◌, map, length, get_or, take, drop, set, Some, None, Option, unwrap_or, sym, refl, ap, ◌∙◌, subst, arith, MatchOption}
 use Rattle.std.proofs.lemmas.List.{drop_more, drop_all, take_all, append-nil, append_assoc, map-append, take_more_set, drop-set-lt}
+use Rattle.std.specs.Option.{option_map_or}
 use Rattle.claims.specs.declared.terms.Terms.{Terms}
 use Rattle.claims.specs.declared.codes.ResultCode.{ResultCode}
 use Rattle.claims.specs.declared.codes.ResultCode.TheVariants.{Settled}
 use Rattle.claims.specs.Codes.{settles}
-use Rattle.hosts.specs.Firsts.{either}
 use Rattle.registers.specs.declared.register.Register.{Register}
 use Rattle.registers.specs.Listings.{Listing, listing, objects, fall}
 use Rattle.registers.specs.Piles.{listings, objection, after, Silent, UppermostObjects, OrElseTheHost, StackedAsNested, Passed, Stopped}
 use Rattle.registers.specs.Objections.{never_settles}
 use Rattle.registers.specs.Layered.{stays}
 
--- The walk over registers rs that looks for an objection, at place i.
-module _ (c : Terms) (rs : List Register) (i : ℕ) where
-  abbrev rest : List Register → Option ResultCode
-  rest l = objection (listings l) c
+-- The uppermost register that objects to a claim.
+module _ (c : Terms) where
+  abbrev here : List Register → ℕ → Register → Option ResultCode
+  here rs k d = objects (listing (get_or rs k d)) c
 
-  -- what the register at place i, and those below it, object
-  from_here : (x : Register) (o : Option ResultCode) → rest rs ≡ rest (drop i rs) → i < length rs → x ≡ get_or rs i x → o ≡ objects (listing x) c → rest rs ≡ either o (rest (drop (i + 1) rs)) Some
-  from_here x o inv lt read is =
-      inv ∙ ap rest (drop_more rs i x lt) ∙ ap (λ (y : Register). either (objects (listing y) c) (rest (drop (i + 1) rs)) Some) (sym read)
-      ∙ ap (λ (q : Option ResultCode). either q (rest (drop (i + 1) rs)) Some) (sym is)
+  -- none of the registers objects
+  pub nobody : (rs : List Register) → ((k : ℕ) (d : Register) → k < length rs → None ≡ here rs k d) → None ≡ objection (listings rs) c
+  nobody [] none = refl
+  nobody (x ∷ rs) none = rw (← none 0 x (omega arith)) (nobody rs (λ k d l. none (suc k) d (omega arith)))
 
-  pub found : (x : Register) (k : ResultCode) → rest rs ≡ rest (drop i rs) → i < length rs → x ≡ get_or rs i x → Some k ≡ objects (listing x) c → Some k ≡ rest rs
-  found x k inv lt read is = sym (from_here x (Some k) inv lt read is)
-
-  pub passes : (x : Register) → rest rs ≡ rest (drop i rs) → i < length rs → x ≡ get_or rs i x → None ≡ objects (listing x) c → rest rs ≡ rest (drop (i + 1) rs)
-  passes x inv lt read is = from_here x None inv lt read is
-
-  pub nobody : rest rs ≡ rest (drop i rs) → length rs ≤ i → None ≡ rest rs
-  nobody inv le = sym (inv ∙ ap rest (drop_all i rs le))
+  -- the register at place i objects, and none above it
+  pub found : (rs : List Register) (i : ℕ) (y : ResultCode) → i < length rs → ((d : Register) → Some y ≡ here rs i d) → ((k : ℕ) (d : Register) → k < i → None ≡ here rs k d) → Some y ≡ objection (listings rs) c
+  found [] i y l is none = absurd (omega arith)
+  found (x ∷ rs) zero y l is none = rw (← is x) refl
+  found (x ∷ rs) (suc i) y l is none = rw (← none 0 x (omega arith)) (found rs i y (omega arith) is (λ k d m. none (suc k) d (omega arith)))
 
 -- The walk that changes each element x, known by f x, so that it is known by h (f x) after.
 module _ {X Y : Type 0} (f : X → Y) (h : Y → Y) where
@@ -51,19 +47,10 @@ module _ {X Y : Type 0} (f : X → Y) (h : Y → Y) where
         let a : partly xs i ≡ map f xs ++ [] = ap (λ (l : List X). map f l ++ map h (map f (drop i xs))) (take_all i xs le) ∙ ap (λ (l : List X). map f xs ++ map h (map f l)) (drop_all i xs le) in
         sym (append-nil (map f xs)) ∙ sym a ∙ inv
 
--- A debit where no register objects: the slice is read as xs, the terms as t.
+-- A debit where no register objects: the registers are read as xs, the terms as t.
 module _ (rs xs : List Register) (t c : Terms) (read : xs ≡ rs) (told : t ≡ c) where
-  pub silent : None ≡ objection (listings xs) t → objection (listings rs) c ≡ None
-  silent n = sym (n ∙ ap (λ (l : List Register). objection (listings l) t) read ∙ ap (objection (listings rs)) told)
-
   pub lowered_all : (ys : List Register) (v : ResultCode) → v ≡ Settled → listings ys ≡ map (fall t) (listings xs) → listings ys ≡ after c v (listings rs)
   lowered_all ys v e h = h ∙ ap (λ (l : List Register). map (fall t) (listings l)) read ∙ ap (λ (u : Terms). map (fall u) (listings rs)) told ∙ sym (ap (λ (k : ResultCode). after c k (listings rs)) e)
-
-pub through : (o : Option ResultCode) (k v : ResultCode) → o ≡ None → k ≡ v → k ≡ unwrap_or o v
-through o k v n e = e ∙ sym (ap (λ (p : Option ResultCode). unwrap_or p v) n)
-
-pub down : {D : Type 0} (Q : ResultCode → Type 0) (o : Option ResultCode) → o ≡ None → D → MatchOption o D Q
-down {D} Q o n d = subst (λ (p : Option ResultCode). MatchOption p D Q) (sym n) d
 
 -- What holds of any pile.
 
@@ -83,7 +70,7 @@ after_one : (c : Terms) (b : Bool) (l : Listing) (ls : List Listing) → cond b 
 after_one c true l ls = refl
 after_one c false l ls = refl
 
-verdict_nested : (o p : Option ResultCode) (v : ResultCode) → unwrap_or (either o p Some) v ≡ unwrap_or (either o None Some) (unwrap_or p v)
+verdict_nested : (o p : Option ResultCode) (v : ResultCode) → unwrap_or (option_map_or Some o p) v ≡ unwrap_or (option_map_or Some o None) (unwrap_or p v)
 verdict_nested None p v = refl
 verdict_nested (Some k) p v = refl
 
@@ -97,12 +84,12 @@ module _ {S : Type 0} (verdict : S → Terms → ResultCode) (debits : S → Ter
   module _ (l l' : Listing) (ls ls' : List Listing) (s s' : S) (c : Terms) where
     -- one debit of the stacked registers, by the objections of the uppermost and of the others
     abbrev StackedBy : Option ResultCode → Option ResultCode → Type 0
-    StackedBy o p = MatchOption (either o p Some) (debits s c s' × (l' ∷ ls' ≡ after c (verdict s c) (l ∷ ls))) (λ _. (l' ∷ ls' ≡ l ∷ ls) × (s' ≡ s))
+    StackedBy o p = MatchOption (option_map_or Some o p) (debits s c s' × (l' ∷ ls' ≡ after c (verdict s c) (l ∷ ls))) (λ _. (l' ∷ ls' ≡ l ∷ ls) × (s' ≡ s))
 
     -- and of the uppermost above the pile of the others
     abbrev NestedBy : Option ResultCode → Option ResultCode → Type 0
     NestedBy o p =
-        MatchOption (either o None Some)
+        MatchOption (option_map_or Some o None)
         (MatchOption p (debits s c s' × (ls' ≡ after c (verdict s c) ls)) (λ _. (ls' ≡ ls) × (s' ≡ s)) × (l' ∷ [] ≡ after c (unwrap_or p (verdict s c)) (l ∷ [])))
         (λ _. (l' ∷ [] ≡ l ∷ []) × (◌≡◌ {A = List Listing × S} (ls', s') (ls, s)))
 

@@ -1,10 +1,10 @@
 -- No register objects with the code of a settled claim.
 use Rattle.std.proofs.Common.{◌≡◌, ℕ, Bool, true, false, cond, ltb, List, [], ◌∷◌, Some, None, Option, arith}
+use Rattle.std.specs.Option.{option_map_or}
 use Rattle.claims.specs.declared.terms.Terms.{Terms}
 use Rattle.claims.specs.declared.codes.ResultCode.{ResultCode}
 use Rattle.claims.specs.declared.codes.ResultCode.TheVariants.{Settled, StoppedByHolder, NoMandate, StoppedByBiller, Other}
 use Rattle.claims.specs.Codes.{number_of}
-use Rattle.hosts.specs.Firsts.{either}
 use Rattle.tables.specs.Rows.{same_account, same_customer, account_row, customer_row}
 use Rattle.tables.specs.Tables.{is_listed}
 use Rattle.tables.specs.Ceilings.{left_to}
@@ -34,7 +34,7 @@ never_one (billers rs) c e = never_chosen StoppedByBiller (is_listed same_custom
 never_one (mandates rs) c e = never_left_out NoMandate (is_listed same_account rs (account_row c)) (apart NoMandate (λ z. omega (arith, z))) e
 never_one (ceilings rs) c e = ceiling c.amount (left_to c.biller rs) e
 
-never_more : (o p : Option ResultCode) → (o ≡ Some Settled → ⊥) → (p ≡ Some Settled → ⊥) → either o p Some ≡ Some Settled → ⊥
+never_more : (o p : Option ResultCode) → (o ≡ Some Settled → ⊥) → (p ≡ Some Settled → ⊥) → option_map_or Some o p ≡ Some Settled → ⊥
 never_more None p n m e = m e
 never_more (Some k) p n m e = n e
 

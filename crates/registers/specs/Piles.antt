@@ -1,12 +1,12 @@
 -- A host with registers above it, uppermost first: what it shows, what it says of a claim, and what one debit makes of it.
-use Rattle.std.specs.Prelude.{◌≡◌, ℕ, cond, List, [], ◌∷◌, ◌++◌, map, Some, None, vec_items, Option, MatchOption}
+use Rattle.std.specs.Prelude.{◌≡◌, ℕ, cond, List, [], ◌∷◌, ◌++◌, map, Some, None, Vec, vec_items, Option, MatchOption}
 use Rattle.std.specs.Option.{unwrap_or}
 use Rattle.claims.specs.declared.terms.Terms.{Terms}
 use Rattle.claims.specs.declared.codes.ResultCode.{ResultCode}
 use Rattle.claims.specs.Codes.{settles}
 use Rattle.hosts.specs.Meaning.{uppermost}
 use Rattle.tables.specs.Figures.{figures_above}
-use Rattle.registers.specs.declared.pile.Pile.{Pile}
+use Rattle.registers.specs.declared.layered.Layered.{Layered}
 use Rattle.registers.specs.declared.register.Register.{Register}
 use Rattle.registers.specs.Listings.{Listing, listing, objects, fall}
 
@@ -14,8 +14,8 @@ abbrev pub listings : List Register → List Listing
 listings rs = map listing rs
 
 -- what a pile holds above its host
-abbrev pub held : {P : Type 0} → Pile P → List Listing
-held s = listings (vec_items s.registers)
+abbrev pub held : {P A : Type 0} → Layered (Vec Register A) P → List Listing
+held s = listings (vec_items s.layer)
 
 -- the objection of the uppermost register that objects
 abbrev pub objection : List Listing → Terms → Option ResultCode

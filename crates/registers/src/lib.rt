@@ -2,6 +2,7 @@
 #![tactic(auto)]
 
 pub mod above;
+pub mod layered;
 pub mod pile;
 pub mod piled;
 pub mod register;

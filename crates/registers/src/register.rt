@@ -1,8 +1,8 @@
 // One register of any of the four sorts: its objection to a claim, and the fall of a ceiling.
-ghost use Rattle.std.specs.Prelude.{◌≡◌, if◌then◌else◌, Some, None};
-ghost use Rattle.tables.specs.Rows.{account_row, customer_row};
+ghost use Rattle.std.specs.Prelude.{◌≡◌, [], ◌∷◌};
 ghost use Rattle.registers.specs.Listings.{listing, objects, fall};
 
+use crate::layered::Layer;
 use claims::codes::ResultCode;
 use claims::terms::Terms;
 use tables::rows::{AccountRow, CeilingRow, CustomerRow};
@@ -20,33 +20,6 @@ pub enum Register {
     Ceiling(Table<CeilingRow>),
 }
 
-// The row that a claim would be listed under by its account.
-fn account_row(terms: Terms) -> AccountRow
-    ensures { result ≡ account_row terms }
-{
-    AccountRow {
-        biller: terms.biller,
-        account: terms.account,
-    }
-}
-
-// The row that a claim would be listed under by its customer number.
-fn customer_row(terms: Terms) -> CustomerRow
-    ensures { result ≡ customer_row terms }
-{
-    CustomerRow {
-        biller: terms.biller,
-        high: terms.high,
-        low: terms.low,
-    }
-}
-
-fn objection_if(due: bool, code: ResultCode) -> Option<ResultCode>
-    ensures { result ≡ (if due then Some code else None) }
-{
-    if due { Some(code) } else { None }
-}
-
 impl Register {
     /// The code with which the register objects to a claim with these terms, if it does.
     pub fn objection(&self, terms: Terms) -> Option<ResultCode>
@@ -54,22 +27,20 @@ impl Register {
     {
         match self {
             Register::HolderStop(table) => {
-                let listed = table.contains(&account_row(terms));
-                objection_if(listed, ResultCode::StoppedByHolder)
+                let listed = table.contains(&AccountRow::from(terms));
+                listed.then_some(ResultCode::StoppedByHolder)
             }
             Register::BillerStop(table) => {
-                let listed = table.contains(&customer_row(terms));
-                objection_if(listed, ResultCode::StoppedByBiller)
+                let listed = table.contains(&CustomerRow::from(terms));
+                listed.then_some(ResultCode::StoppedByBiller)
             }
             Register::Mandates(table) => {
-                let listed = table.contains(&account_row(terms));
-                objection_if(!listed, ResultCode::NoMandate)
+                let listed = table.contains(&AccountRow::from(terms));
+                (!listed).then_some(ResultCode::NoMandate)
             }
             Register::Ceiling(table) => {
-                let Some(left) = table.left_to(terms.biller) else {
-                    return None;
-                };
-                objection_if(left < terms.amount, ResultCode::Other)
+                let left = table.left_to(terms.biller)?;
+                (left < terms.amount).then_some(ResultCode::Other)
             }
         }
     }
@@ -81,5 +52,18 @@ impl Register {
         if let Register::Ceiling(table) = self {
             table.lower(terms.biller, terms.amount);
         }
+    }
+}
+
+/// One register by itself. Its own two calls stand above, since their clauses speak of one register and not of a list.
+impl Layer for Register {
+    ghost held = { λ r. listing r ∷ [] };
+
+    fn objection(&self, terms: Terms) -> Option<ResultCode> {
+        Register::objection(self, terms)
+    }
+
+    fn lower(&mut self, terms: Terms) {
+        Register::lower(self, terms)
     }
 }

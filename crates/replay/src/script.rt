@@ -1,35 +1,37 @@
 // Lines of a script: what prints nothing, what is a command, and what is a bad line.
-ghost use Rattle.std.specs.Prelude.{◌≤◌, IfSome};
-
 use afternoon::commands::{Command, Sort};
 use afternoon::staff::Entry;
 use books::Bottom;
 use claims::terms::Terms;
 use hosts::ledger::LedgerRow;
 use hosts::sheet::SheetRow;
-
-/// The most numbers that a command has.
-const MOST_NUMBERS: usize = 6;
+use std::error::Error;
+use std::fmt;
 
 /// The most digits that a number has.
 const MOST_DIGITS: usize = 20;
 
-pub enum Line {
-    /// A blank line or a remark: it prints nothing.
-    Silent,
-    /// No form of command: it changes nothing.
-    Bad,
-    Perform(Command),
+/// A line of no form of command: it changes nothing.
+#[derive(Clone, Copy, Debug, PartialEq, Eq)]
+pub struct BadLine;
+
+impl fmt::Display for BadLine {
+    ghost use Rattle.std.specs.Prelude.{Some, codes};
+
+    ghost output = { λ _. Some (codes "BAD LINE") };
+
+    fn fmt<W: fmt::Write>(&self, f: &mut fmt::Formatter<W>) -> fmt::Result {
+        f.write_str("BAD LINE")
+    }
 }
 
-pub fn read_line(line: &[u8]) -> Line {
+impl Error for BadLine {}
+
+/// The command in a line; none in a blank line or a remark, which print nothing.
+pub fn read_line(line: &[u8]) -> Result<Option<Command>, BadLine> {
     match line {
-        [] => Line::Silent,
-        [b'#', ..] => Line::Silent,
-        _ => match read_command(line) {
-            Some(command) => Line::Perform(command),
-            None => Line::Bad,
-        },
+        [] | [b'#', ..] => Ok(None),
+        _ => read_command(line).map(Some).ok_or(BadLine),
     }
 }
 
@@ -43,129 +45,97 @@ fn read_command(line: &[u8]) -> Option<Command> {
         b"put ceiling" => Some(Command::Put(Sort::Ceiling)),
         b"off" => Some(Command::Off),
         _ => {
-            let (word, fields) = first_field(line);
-            let mut numbers = [0; MOST_NUMBERS];
-            let count = read_numbers(fields?, &mut numbers)?;
-            command_with(word, &numbers[..count])
+            let space = line.iter().position(|byte| *byte == b' ')?;
+            command_with(&line[..space], &line[space + 1..])
         }
     }
 }
 
-// A command by its word and its numbers.
-fn command_with(word: &[u8], numbers: &[u64]) -> Option<Command> {
+// A command by its word and the numbers after it.
+fn command_with(word: &[u8], fields: &[u8]) -> Option<Command> {
     match word {
-        b"ledger" => Some(Command::Ledger(ledger_row(numbers)?)),
-        b"sheet" => Some(Command::Sheet(sheet_row(numbers)?)),
-        b"list" => match numbers {
-            [number, biller, second] => Some(Command::List {
-                number: *number,
-                entry: Entry::Two(*biller, *second),
-            }),
-            [number, biller, high, low] => Some(Command::List {
-                number: *number,
-                entry: Entry::Three(*biller, *high, *low),
-            }),
-            _ => None,
-        },
+        b"ledger" => Some(Command::Ledger(ledger_row(numbers(fields)?))),
+        b"sheet" => Some(Command::Sheet(sheet_row(numbers(fields)?)?)),
+        b"list" => {
+            let (number, entry) = listed_row(fields)?;
+            Some(Command::List { number, entry })
+        }
         b"strike" => {
-            let (number, entry) = struck_row(numbers)?;
+            let (number, entry) = struck_row(fields)?;
             Some(Command::Strike { number, entry })
         }
-        b"inquire" => Some(Command::Inquire(terms(numbers)?)),
-        b"debit" => Some(Command::Debit(terms(numbers)?)),
-        b"taken" => match numbers {
-            [account] => Some(Command::Taken { account: *account }),
-            _ => None,
-        },
+        b"inquire" => Some(Command::Inquire(terms(numbers(fields)?))),
+        b"debit" => Some(Command::Debit(terms(numbers(fields)?))),
+        b"taken" => {
+            let [account] = numbers::<1>(fields)?;
+            Some(Command::Taken { account })
+        }
         _ => None,
     }
 }
 
-fn terms(numbers: &[u64]) -> Option<Terms> {
-    match numbers {
-        [biller, account, high, low, amount] => Some(Terms {
-            biller: *biller,
-            account: *account,
-            high: *high,
-            low: *low,
-            amount: *amount,
-        }),
-        _ => None,
+// This and what follows are functions and no `From`, since numbers and rows are both types of other crates.
+fn terms([biller, account, high, low, amount]: [u64; 5]) -> Terms {
+    Terms {
+        biller,
+        account,
+        high,
+        low,
+        amount,
     }
 }
 
 // A ledger row from which nothing has been taken yet.
-fn ledger_row(numbers: &[u64]) -> Option<LedgerRow> {
-    match numbers {
-        [account, balance] => Some(LedgerRow {
-            account: *account,
-            balance: *balance,
-            taken: 0,
-        }),
-        _ => None,
+fn ledger_row([account, balance]: [u64; 2]) -> LedgerRow {
+    LedgerRow {
+        account,
+        balance,
+        taken: 0,
     }
 }
 
-// A sheet row that is not spent yet.
-fn sheet_row(numbers: &[u64]) -> Option<SheetRow> {
-    match numbers {
-        [biller, account, high, low, amount, code] => Some(SheetRow {
-            biller: *biller,
-            account: *account,
-            high: *high,
-            low: *low,
-            amount: *amount,
-            code: code_number(*code)?,
-            spent: false,
-        }),
-        _ => None,
-    }
+// A sheet row that is not spent yet, if its code is a byte.
+fn sheet_row([biller, account, high, low, amount, code]: [u64; 6]) -> Option<SheetRow> {
+    Some(SheetRow {
+        terms: terms([biller, account, high, low, amount]),
+        code: u8::try_from(code).ok()?,
+        spent: false,
+    })
 }
 
-fn code_number(number: u64) -> Option<u8> {
-    if number > 255 {
-        return None;
+// The number of a register, and the row to be listed in it.
+fn listed_row(fields: &[u8]) -> Option<(u64, Entry)> {
+    if let Some(three) = numbers::<3>(fields) {
+        let [number, biller, second] = three;
+        return Some((number, Entry::Two(biller, second)));
     }
-    Some(number as u8)
+    let [number, biller, high, low] = numbers::<4>(fields)?;
+    Some((number, Entry::Three(biller, high, low)))
 }
 
 // The number of a register, and the row to be struck off it.
-fn struck_row(numbers: &[u64]) -> Option<(u64, Entry)> {
-    match numbers {
-        [number, biller] => Some((*number, Entry::One(*biller))),
-        [number, biller, second] => Some((*number, Entry::Two(*biller, *second))),
-        [number, biller, high, low] => Some((*number, Entry::Three(*biller, *high, *low))),
-        _ => None,
+fn struck_row(fields: &[u8]) -> Option<(u64, Entry)> {
+    if let Some(two) = numbers::<2>(fields) {
+        let [number, biller] = two;
+        return Some((number, Entry::One(biller)));
+    }
+    listed_row(fields)
+}
+
+// Just so many numbers, separated by single spaces.
+fn numbers<const N: usize>(fields: &[u8]) -> Option<[u64; N]> {
+    let mut numbers = [0; N];
+    let mut pieces = fields.split(|byte| *byte == b' ');
+    for number in numbers.iter_mut() {
+        *number = read_number(pieces.next()?)?;
+    }
+    match pieces.next() {
+        Some(_) => None,
+        None => Some(numbers),
     }
 }
 
-// What stands before the first space, and what stands after it, if there is one.
-fn first_field(line: &[u8]) -> (&[u8], Option<&[u8]>) {
-    for (i, byte) in line.iter().enumerate() {
-        if *byte == b' ' {
-            return (&line[..i], Some(&line[i + 1..]));
-        }
-    }
-    (line, None)
-}
-
-// Reads numbers that are separated by single spaces into the front of `numbers`, and tells how many there are.
-fn read_numbers(fields: &[u8], numbers: &mut [u64; MOST_NUMBERS]) -> Option<usize>
-    ensures { IfSome result (λ n. n ≤ 6) }
-{
-    let mut rest = fields;
-    for i in 0..MOST_NUMBERS {
-        let (field, more) = first_field(rest);
-        numbers[i] = read_number(field)?;
-        match more {
-            Some(fields) => rest = fields,
-            None => return Some(i + 1),
-        }
-    }
-    None
-}
-
-// 1 to 20 digits that spell a number below 2^64.
+// 1 to 20 digits that spell a number below 2^64. No `parse`, which takes a sign and any number of zeros.
 fn read_number(digits: &[u8]) -> Option<u64> {
     if digits.is_empty() || digits.len() > MOST_DIGITS {
         return None;
@@ -175,7 +145,9 @@ fn read_number(digits: &[u8]) -> Option<u64> {
         if !byte.is_ascii_digit() {
             return None;
         }
-        number = number.checked_mul(10)?.checked_add((*byte - b'0') as u64)?;
+        number = number
+            .checked_mul(10)?
+            .checked_add(u64::from(*byte - b'0'))?;
     }
     Some(number)
 }

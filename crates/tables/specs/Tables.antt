@@ -1,8 +1,7 @@
 -- Listing and striking in a register of at most 256 rows, for any sort of row that is known by some of its parts.
-use Rattle.std.specs.Prelude.{ℕ, Bool, cond, List, [], ◌∷◌, ◌++◌, length, is_some, is_ok, Ok, Err, Result, nat_le}
+use Rattle.std.specs.Prelude.{ℕ, Bool, cond, List, [], ◌∷◌, ◌++◌, length, find, is_some, is_ok, Ok, Err, Result, nat_le}
 use Rattle.denials.specs.declared.Denial.{Denial}
 use Rattle.denials.specs.declared.Denial.TheVariants.{OutsideWidth, RegisterFull, AlreadyListed, NotListed}
-use Rattle.hosts.specs.Firsts.{first}
 
 -- the most rows that a register holds
 abbrev pub row_limit : ℕ
@@ -15,7 +14,7 @@ without_first p (x ∷ xs) = cond (p x) xs (x ∷ without_first p xs)
 
 -- a row that is known by the same parts is there
 abbrev pub is_listed : {X : Type 0} → (X → X → Bool) → List X → X → Bool
-is_listed same rs q = is_some (first (same q) rs)
+is_listed same rs q = is_some (find (same q) rs)
 
 module _ {X : Type 0} (same : X → X → Bool) (wide : X → Bool) where
   abbrev pub list_answer : List X → X → Result (Unit {0}) Denial

@@ -1,8 +1,8 @@
 // The rows of the registers: what each row is known by, and the widths of its numbers.
 ghost use Rattle.std.specs.Prelude.{◌≡◌, Bool};
-ghost use Rattle.tables.specs.Rows.{same_account, wide_account, same_customer, wide_customer, same_biller, wide_biller, wide_ceiling};
+ghost use Rattle.tables.specs.Rows.{same_account, wide_account, same_customer, wide_customer, same_biller, wide_biller, wide_ceiling, account_row, customer_row};
 
-use claims::terms::{FIFTEEN_DIGITS, TEN_DIGITS};
+use claims::terms::{FIFTEEN_DIGITS, TEN_DIGITS, Terms};
 
 /// A row of a register.
 pub trait Row {
@@ -26,14 +26,14 @@ pub trait Row {
 }
 
 /// A biller and an account: in a holder's stop, and in mandates.
-#[derive(Clone, Copy)]
+#[derive(Clone, Copy, Debug, PartialEq, Eq)]
 pub struct AccountRow {
     pub biller: u64,
     pub account: u64,
 }
 
 /// A biller and a customer number in two halves: in a biller's stop.
-#[derive(Clone, Copy)]
+#[derive(Clone, Copy, Debug, PartialEq, Eq)]
 pub struct CustomerRow {
     pub biller: u64,
     pub high: u64,
@@ -41,7 +41,7 @@ pub struct CustomerRow {
 }
 
 /// A biller and the amount left to it: in a register of ceilings, where the biller code alone makes a row known.
-#[derive(Clone, Copy)]
+#[derive(Clone, Copy, Debug, PartialEq, Eq)]
 pub struct CeilingRow {
     pub biller: u64,
     pub left: u64,
@@ -55,7 +55,7 @@ impl Row for AccountRow {
     ghost wide = { wide_account };
 
     fn is_same(&self, other: &AccountRow) -> bool {
-        self.biller == other.biller && self.account == other.account
+        self == other
     }
 
     fn is_wide_key(&self) -> bool {
@@ -75,7 +75,7 @@ impl Row for CustomerRow {
     ghost wide = { wide_customer };
 
     fn is_same(&self, other: &CustomerRow) -> bool {
-        self.biller == other.biller && self.high == other.high && self.low == other.low
+        self == other
     }
 
     fn is_wide_key(&self) -> bool {
@@ -94,6 +94,7 @@ impl Row for CeilingRow {
 
     ghost wide = { wide_ceiling };
 
+    // One part of two makes a ceiling known, so this is no equality.
     fn is_same(&self, other: &CeilingRow) -> bool {
         self.biller == other.biller
     }
@@ -104,5 +105,30 @@ impl Row for CeilingRow {
 
     fn is_wide(&self) -> bool {
         self.is_wide_key() && self.left <= FIFTEEN_DIGITS
+    }
+}
+
+/// The row that a claim with these terms would be listed under by its account.
+impl From<Terms> for AccountRow {
+    ghost from_gives = { λ t r. r ≡ account_row t };
+
+    fn from(terms: Terms) -> AccountRow {
+        AccountRow {
+            biller: terms.biller,
+            account: terms.account,
+        }
+    }
+}
+
+/// The row that a claim with these terms would be listed under by its customer number.
+impl From<Terms> for CustomerRow {
+    ghost from_gives = { λ t r. r ≡ customer_row t };
+
+    fn from(terms: Terms) -> CustomerRow {
+        CustomerRow {
+            biller: terms.biller,
+            high: terms.high,
+            low: terms.low,
+        }
     }
 }

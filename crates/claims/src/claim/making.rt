@@ -7,11 +7,13 @@ use super::Claim;
 use crate::terms::{FIFTEEN_DIGITS, TEN_DIGITS, Terms};
 use denials::Denial;
 
-impl Claim {
-    /// The claim with these terms, or the denial of a number outside its width.
-    pub fn new(terms: Terms) -> Result<Claim, Denial>
-        ensures { plain result ≡ made terms }
-    {
+/// The claim with these terms, or the denial of a number outside its width.
+impl TryFrom<Terms> for Claim {
+    type Error = Denial;
+
+    ghost try_from_gives = { λ terms told. plain told ≡ made terms };
+
+    fn try_from(terms: Terms) -> Result<Claim, Denial> {
         if terms.biller > TEN_DIGITS
             || terms.account > FIFTEEN_DIGITS
             || terms.high > TEN_DIGITS
@@ -23,7 +25,9 @@ impl Claim {
         }
         Ok(Claim { terms })
     }
+}
 
+impl Claim {
     pub fn terms(&self) -> Terms
         ensures value { result ≡ self.now.terms }
         ensures widths { Wide result }

@@ -11,11 +11,10 @@ impl Table<CeilingRow> {
     pub fn left_to(&self, biller: u64) -> Option<u64>
         ensures { result ≡ left_to biller self.now.rows.items }
     {
-        let key = CeilingRow { biller, left: 0 };
-        let Some(i) = self.position(&key) else {
-            return None;
-        };
-        Some(self.rows[i].left)
+        self.rows
+            .iter()
+            .find(|row| biller == row.biller)
+            .map(|row| row.left)
     }
 
     /// Lowers the biller's row by the amount, if it has one, and at most to 0.
@@ -23,10 +22,10 @@ impl Table<CeilingRow> {
         ensures { self.new.rows.items ≡ at_first (of_biller biller) (lowered amount) self.old.rows.items }
     {
         let key = CeilingRow { biller, left: 0 };
-        let Some(i) = self.position(&key) else {
-            return;
-        };
-        let row = &mut self.rows[i];
-        row.left = row.left.saturating_sub(amount);
+        if let Some(i) = self.position(&key) {
+            // One row is lent inside the method, by its place: a rule of the project.
+            let row = &mut self.rows[i];
+            row.left = row.left.saturating_sub(amount);
+        }
     }
 }

@@ -1,6 +1,6 @@
 // Making an empty table, finding a row, listing one and striking one off.
 ghost use Rattle.std.specs.Prelude.{◌≡◌, ℕ, ◌<◌, [], IfSome, IfOk, vec_len};
-ghost use Rattle.hosts.specs.Firsts.{place};
+ghost use Rattle.std.specs.List.{position_from};
 ghost use Rattle.tables.specs.Figures.{figures_above};
 ghost use Rattle.tables.specs.Tables.{is_listed, list_answer, listed, strike_answer, struck};
 
@@ -29,15 +29,10 @@ impl<R: Row + Copy> Table<R> {
 
     // Where the row that is known by the same parts stands.
     pub(crate) fn position(&self, key: &R) -> Option<usize>
-        ensures value { result ≡ place (R.same key.now) 0 self.now.rows.items }
+        ensures value { result ≡ position_from (R.same key.now) 0 self.now.rows.items }
         ensures within { IfSome result (λ i. i < vec_len self.now.rows) }
     {
-        for (i, row) in self.rows.iter().enumerate() {
-            if key.is_same(row) {
-                return Some(i);
-            }
-        }
-        None
+        self.rows.iter().position(|row| key.is_same(row))
     }
 
     /// Whether a row that is known by the same parts is there.
@@ -75,9 +70,7 @@ impl<R: Row + Copy> Table<R> {
         if !key.is_wide_key() {
             return Err(Denial::OutsideWidth);
         }
-        let Some(i) = self.position(key) else {
-            return Err(Denial::NotListed);
-        };
+        let i = self.position(key).ok_or(Denial::NotListed)?;
         self.rows.remove(i);
         Ok(())
     }

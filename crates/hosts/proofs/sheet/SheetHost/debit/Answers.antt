@@ -3,6 +3,9 @@ use Rattle.claims.proofs.Settling.{same_code, other_code}
 use Rattle.hosts.specs.SheetsLemmas as sheets
 use Rattle.hosts.proofs.sheet.SheetHost.debit.Goals as goal
 
+pub index_mut-row-requires : goal.index_mut-row-requires
+index_mut-row-requires c = sheets.inside (vec_items c.args.self.now.rows) _ _ c.in-Some.ensures.within c.args.self.now.rows.ok.0
+
 pub returns-in_default : goal.returns-in_default
 returns-in_default c =
     let h = sheets.missing _ _ _ c.terms.ensures.value c.in_default.ensures.value in
