@@ -1,8 +1,0 @@
-use Rattle.std.proofs.Common.{◌≡◌, map}
-use Rattle.registers.specs.Listings.{listing, fall}
-use Rattle.registers.specs.Piles.{listings}
-use Rattle.registers.proofs.Stacking.{partly}
-use Rattle.registers.proofs.pile.lower.Given as goal
-
-abbrev pub invariant-loop-register : goal.invariant-loop-register
-invariant-loop-register l = partly listing (fall l.terms) l.registers l.register-index ≡ map (fall l.terms) (listings l.initial.registers)
