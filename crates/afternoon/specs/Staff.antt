@@ -1,5 +1,5 @@
 -- Listing and striking in a register of any sort, by plain numbers: the answer with the register afterwards, or none where the numbers do not fit its sort.
-use Rattle.std.specs.Prelude.{◌≡◌, ℕ, Bool, List, Some, None, Option, Result}
+use Rattle.std.specs.Prelude.{◌≡◌, ℕ, Bool, List, Some, None, Option, Result, option_and_then}
 use Rattle.denials.specs.declared.Denial.{Denial}
 use Rattle.tables.specs.declared.rows.AccountRow.{AccountRow}
 use Rattle.tables.specs.declared.rows.CustomerRow.{CustomerRow}
@@ -67,30 +67,13 @@ abbrev pub striking_row : {X : Type 0} → (X → X → Bool) → (X → Bool) �
 striking_row same wide sort rs q = Some (strike_answer same wide rs q, sort (struck same wide rs q))
 
 abbrev pub list_in : Listing → Entry → Changed
-list_in (holders rs) (One b) = None
-list_in (holders rs) (Two b a) = listing_row same_account wide_account holders rs (account b a)
-list_in (holders rs) (Three b h l) = None
-list_in (billers rs) (One b) = None
-list_in (billers rs) (Two b a) = None
-list_in (billers rs) (Three b h l) = listing_row same_customer wide_customer billers rs (customer b h l)
-list_in (mandates rs) (One b) = None
-list_in (mandates rs) (Two b a) = listing_row same_account wide_account mandates rs (account b a)
-list_in (mandates rs) (Three b h l) = None
-list_in (ceilings rs) (One b) = None
-list_in (ceilings rs) (Two b m) = listing_row same_biller wide_ceiling ceilings rs (ceiling b m)
-list_in (ceilings rs) (Three b h l) = None
+list_in (holders rs) e = option_and_then (listing_row same_account wide_account holders rs) (account_in e)
+list_in (billers rs) e = option_and_then (listing_row same_customer wide_customer billers rs) (customer_in e)
+list_in (mandates rs) e = option_and_then (listing_row same_account wide_account mandates rs) (account_in e)
+list_in (ceilings rs) e = option_and_then (listing_row same_biller wide_ceiling ceilings rs) (ceiling_in e)
 
--- a ceiling is struck off by its biller code alone
 abbrev pub strike_in : Listing → Entry → Changed
-strike_in (holders rs) (One b) = None
-strike_in (holders rs) (Two b a) = striking_row same_account wide_account holders rs (account b a)
-strike_in (holders rs) (Three b h l) = None
-strike_in (billers rs) (One b) = None
-strike_in (billers rs) (Two b a) = None
-strike_in (billers rs) (Three b h l) = striking_row same_customer wide_customer billers rs (customer b h l)
-strike_in (mandates rs) (One b) = None
-strike_in (mandates rs) (Two b a) = striking_row same_account wide_account mandates rs (account b a)
-strike_in (mandates rs) (Three b h l) = None
-strike_in (ceilings rs) (One b) = striking_row same_biller wide_biller ceilings rs (ceiling b 0)
-strike_in (ceilings rs) (Two b m) = None
-strike_in (ceilings rs) (Three b h l) = None
+strike_in (holders rs) e = option_and_then (striking_row same_account wide_account holders rs) (account_in e)
+strike_in (billers rs) e = option_and_then (striking_row same_customer wide_customer billers rs) (customer_in e)
+strike_in (mandates rs) e = option_and_then (striking_row same_account wide_account mandates rs) (account_in e)
+strike_in (ceilings rs) e = option_and_then (striking_row same_biller wide_biller ceilings rs) (ceiling_key_in e)

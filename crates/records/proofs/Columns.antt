@@ -1,5 +1,6 @@
 -- The bytes of a field by themselves: where the first wrong one stands, and which number the digits spell.
-use Rattle.std.proofs.Common.{◌≡◌, ℕ, zero, suc, ◌+◌, ◌-◌, ◌*◌, ◌^◌, ◌<◌, ◌≤◌, Bool, true, false, cond, not, leb, length, get_or, take, drop, [], ◌∷◌, Some, pow-suc, refl, ap, ◌∙◌, arith}
+use Rattle.std.proofs.Common.{◌≡◌, ℕ, zero, suc, ◌+◌, ◌-◌, ◌*◌, ◌^◌, ◌<◌, ◌≤◌, Bool, true, false, cond, not, leb, length, get_or, take, drop, [], ◌∷◌, Some, Option, pow-suc, sym, refl, ap, ◌∙◌, arith}
+use Rattle.std.specs.Prelude.{option_map, position}
 use native.Mathlib.Nat.{pow-le-pow_right}
 use Rattle.std.proofs.lemmas.Bool.{leb-true, and_parts}
 use Rattle.std.proofs.lemmas.List.{at_drop_more, take_more, get_or-drop, length-drop}
@@ -7,7 +8,8 @@ use Rattle.std.proofs.lemmas.List.Sums.{fold-append}
 use Rattle.records.specs.declared.layouts.Class.{Class}
 use Rattle.records.specs.declared.layouts.Class.TheVariants.{Number}
 use Rattle.records.specs.Layouts.{holds}
-use Rattle.records.specs.Fields.{Bytes, byte_in, first_wrong_byte, number, wrong_from, spelled}
+use Rattle.records.specs.Fields.{Bytes, byte_in, first_wrong_byte, number, judged_bytes, wrong_from, spelled}
+use Rattle.records.proofs.Places.{from_place}
 
 turned : {X : Type 0} (b : Bool) (x y : X) → cond (not b) x y ≡ cond b y x
 turned true x y = refl
@@ -35,6 +37,11 @@ number_cut x col (suc n) low high =
     ∙ fold-append (λ m b. m * 10 + (b - 48)) 0 (take n (drop (col - 1) x)) (get_or (drop (col - 1) x) n 0 ∷ [])
     ∙ ap (λ m. m * 10 + (get_or (drop (col - 1) x) n 0 - 48)) (number_cut x col n low (omega arith))
     ∙ ap (λ b. number x col n * 10 + (b - 48)) (get_or-drop (col - 1) x n 0 ∙ ap (λ k. get_or x k 0) e)
+
+-- what is told of bytes by the place of their first wrong one, counted from 0
+pub judged_from : {X : Type 0} (v : X) (c : Class) (col : ℕ) (bs : Bytes) (o : Option ℕ) → o ≡ position (λ b. not (holds c b)) bs → judged_bytes (option_map (λ i. i + col) o) v ≡ judged_bytes (wrong_from c col bs) v
+judged_from v c col bs o is =
+    ap (λ k. judged_bytes (option_map (λ i. i + col) k) v) is ∙ ap (λ k. judged_bytes k v) (sym (from_place (λ b. not (holds c b)) col bs))
 
 -- a digit's byte
 pub digit_byte : (b : ℕ) → holds Number b ≡ true → (48 ≤ b) × (b ≤ 57)

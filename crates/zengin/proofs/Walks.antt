@@ -31,10 +31,7 @@ record_item b rs r e h = ap (λ l. get_or l r []) e ∙ chunk_at (length b / 120
 
 -- the sort that a byte tells, or its fault
 pub of_sort : {X E : Type 0} (o : Option X) (x : X) (e : E) → Ok x ≡ ok_or o e → o ≡ Some x
-of_sort None x e is = absurd (ok_err is)
-  where
-    ok_err : {X E : Type 0} {x : X} {e : E} → ◌≡◌ {A = Result X E} (Ok x) (Err e) → ⊥
-    ok_err q = let z : ◌≡◌ {A = ℕ} 0 1 = cc in omega arith
+of_sort None x e is = let z : ◌≡◌ {A = ℕ} 0 1 = cc in absurd (omega arith)
 of_sort (Some y) x e is = cc
 
 pub of_no_sort : {X E : Type 0} (o : Option X) (f e : E) → Err f ≡ ok_or o e → o ≡ None
