@@ -56,12 +56,13 @@ fn command_with(word: &[u8], fields: &[u8]) -> Option<Command> {
     match word {
         b"ledger" => Some(Command::Ledger(ledger_row(numbers(fields)?))),
         b"sheet" => Some(Command::Sheet(sheet_row(numbers(fields)?)?)),
-        b"list" => {
-            let (number, entry) = listed_row(fields)?;
-            Some(Command::List { number, entry })
-        }
+        // A biller code alone strikes a ceiling off, and lists nothing.
+        b"list" => match numbered_entry(fields)? {
+            (_, Entry::One(_)) => None,
+            (number, entry) => Some(Command::List { number, entry }),
+        },
         b"strike" => {
-            let (number, entry) = struck_row(fields)?;
+            let (number, entry) = numbered_entry(fields)?;
             Some(Command::Strike { number, entry })
         }
         b"inquire" => Some(Command::Inquire(terms(numbers(fields)?))),
@@ -103,23 +104,19 @@ fn sheet_row([biller, account, high, low, amount, code]: [u64; 6]) -> Option<She
     })
 }
 
-// The number of a register, and the row to be listed in it.
-fn listed_row(fields: &[u8]) -> Option<(u64, Entry)> {
-    if let Some(three) = numbers::<3>(fields) {
-        let [number, biller, second] = three;
-        return Some((number, Entry::Two(biller, second)));
-    }
-    let [number, biller, high, low] = numbers::<4>(fields)?;
-    Some((number, Entry::Three(biller, high, low)))
-}
-
-// The number of a register, and the row to be struck off it.
-fn struck_row(fields: &[u8]) -> Option<(u64, Entry)> {
-    if let Some(two) = numbers::<2>(fields) {
-        let [number, biller] = two;
-        return Some((number, Entry::One(biller)));
-    }
-    listed_row(fields)
+// The number of a register, and the one, two or three numbers that stand for a row. Each is read once: only how many there are tells
+// which row is meant.
+fn numbered_entry(fields: &[u8]) -> Option<(u64, Entry)> {
+    let mut numbers = fields.split(|byte| *byte == b' ').map(read_number);
+    let number = numbers.next()??;
+    let biller = numbers.next()??;
+    let entry = match (numbers.next(), numbers.next(), numbers.next()) {
+        (None, _, _) => Entry::One(biller),
+        (Some(second), None, _) => Entry::Two(biller, second?),
+        (Some(high), Some(low), None) => Entry::Three(biller, high?, low?),
+        _ => return None,
+    };
+    Some((number, entry))
 }
 
 // Just so many numbers, separated by single spaces.

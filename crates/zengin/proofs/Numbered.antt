@@ -4,7 +4,7 @@ use Rattle.std.proofs.lemmas.Bool.{ne_eqb, le-ltb, lt-ltb, eqb-false, ltb-false}
 use Rattle.std.proofs.lemmas.List.{take-take, drop-take, drop-drop, get_or-take, get_or-drop}
 use Rattle.records.specs.declared.layouts.Field.{Field}
 use Rattle.records.specs.declared.layouts.Sort.{Sort}
-use Rattle.records.specs.Layouts.{first, last, width, sort_of, numbered, Inside}
+use Rattle.records.specs.Layouts.{first, width, sort_of, numbered, Inside}
 use Rattle.records.specs.Fields.{Bytes}
 use Rattle.zengin.specs.Files.{records_of, record_at}
 use Rattle.zengin.specs.Shown.{record_numbered, ShownField, cut, of_sort, field_shown}
@@ -60,11 +60,11 @@ module _ (b : Bytes) (r n : ℕ) (x : Bytes) (whole : length b % 120 ≡ 0) (the
       (λ i. cond (not (eqb (whole i) 0) || (ne_eqb r 0 (λ z. omega (arith, p.0)) i || le-ltb (length b / 120) r p.1 i)) None rest)
       ∙ ap (λ y. of_sort b r n (sort_of y)) (sym first_byte)
 
-  pub shown_field_lem : (k : Sort) (f : Field) → Some k ≡ sort_of (get_or x 0 0) → Some f ≡ numbered k n → Inside f → ◌≡◌ {A = Option ShownField} (Some (take (last f - (first f - 1)) (drop (first f - 1) x), r, first f)) (field_shown b r n)
-  shown_field_lem k f sort is inside =
+  -- the part of a record that begins and is as long as a field of its sort is that field shown
+  pub shown_field_lem : (k : Sort) (f : Field) (from wide : ℕ) → Some k ≡ sort_of (get_or x 0 0) → Some f ≡ numbered k n → Inside f → from ≡ first f - 1 → wide ≡ width f → ◌≡◌ {A = Option ShownField} (Some (take wide (drop from x), r, first f)) (field_shown b r n)
+  shown_field_lem k f from wide sort is inside begins goes =
       let p = numbered_there b r x there in
-      let wide : last f - (first f - 1) ≡ width f = omega (arith, inside.begins, inside.goes) in
-      (λ i. Some (take (wide i) (drop (first f - 1) (sym p.2 i)), r, first f))
+      (λ i. Some (take (goes i) (drop (begins i) (sym p.2 i)), r, first f))
       ∙ ap (λ (y : Bytes). Some (y, r, first f)) (part_of_record b ((r - 1) * 120) (first f - 1) (width f) (omega (arith, inside.begins, inside.goes, inside.ends)))
       ∙ ap (λ o. cut b r o) is
       ∙ ap (λ o. of_sort b r n o) sort
