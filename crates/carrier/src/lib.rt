@@ -37,9 +37,8 @@ fn body_of(raw: &[u8]) -> &[u8]
     }
 }
 
-// The length of the bare file.
-// Ones and noughts added up, and not what a filter lets through counted: the machine adds up many bytes at once, and a filter walks to the
-// next byte that it keeps in a loop of its own.
+// The length of the bare file. The bytes that are kept are summed up as ones and not counted behind a filter, whose way to the next of
+// them is a loop inside the loop: that takes more than twice the time.
 fn bare_len(body: &[u8]) -> usize
     ensures { result ≡ length (filter is_kept body.now) }
 {
@@ -48,17 +47,30 @@ fn bare_len(body: &[u8]) -> usize
         .sum()
 }
 
-// Writes the bare file over the front of `out`, by the place of each byte that is kept: of a walk over `out` itself the prover would
-// not know what it wrote.
+// Writes the bare file over the front of `out`, and gives `out` back. It goes through the fold beside the place: of what a closure
+// borrows and a fold drops, the prover would not know what was written. A walk over what a filter keeps takes half as much time again.
+fn fill<'a>(body: &[u8], out: &'a mut [u8]) -> &'a mut [u8]
+    requires { length (filter is_kept body.now) ≤ length out.old }
+    ensures same_reference { result.ghost_name ≡ out.entry.ghost_name }
+    ensures bytes { result.now ≡ over (filter is_kept body.now) out.old }
+{
+    body.iter()
+        .fold((0, out), |(at, out), byte| {
+            if is_line_end(*byte) {
+                return (at, out);
+            }
+            out[at] = *byte;
+            (at + 1, out)
+        })
+        .1
+}
+
+// Writes the bare file over the front of `out`.
 fn copy_bare(body: &[u8], out: &mut [u8])
     requires { length (filter is_kept body.now) ≤ length out.old }
     ensures { out.new ≡ over (filter is_kept body.now) out.old }
 {
-    let mut at = 0;
-    for byte in body.iter().filter(|byte| !is_line_end(**byte)) {
-        out[at] = *byte;
-        at += 1;
-    }
+    fill(body, out);
 }
 
 /// Writes the bare file over the front of `out`, and tells its length. It is counted first, so that a denied call writes nothing.
