@@ -38,7 +38,7 @@ fn body_of(raw: &[u8]) -> &[u8]
 }
 
 // The length of the bare file. The bytes that are kept are summed up as ones and not counted behind a filter, whose way to the next of
-// them is a loop inside the loop: that takes more than twice the time.
+// them is a loop inside the loop: that takes about twice the time.
 fn bare_len(body: &[u8]) -> usize
     ensures { result ≡ length (filter is_kept body.now) }
 {
@@ -48,7 +48,7 @@ fn bare_len(body: &[u8]) -> usize
 }
 
 // Writes the bare file over the front of `out`, and gives `out` back. It goes through the fold beside the place: of what a closure
-// borrows and a fold drops, the prover would not know what was written. A walk over what a filter keeps takes half as much time again.
+// borrows and a fold drops, the prover would not know what was written. A walk over what a filter keeps takes half as many steps again.
 fn fill<'a>(body: &[u8], out: &'a mut [u8]) -> &'a mut [u8]
     requires { length (filter is_kept body.now) ≤ length out.old }
     ensures same_reference { result.ghost_name ≡ out.entry.ghost_name }
